@@ -18,8 +18,8 @@ use Rattle.leveldb_table.specs.ReadableTable.{IsReadableTable, JudgesTable, Path
 use Rattle.leveldb_table.specs.Table.{Part, index_pair}
 use Rattle.leveldb_table.specs.TableBlock.{KeepsDisk, ReadsFile}
 use Rattle.leveldb_table.specs.TableReader.{HasIndex, HasNoIndex}
-use Rattle.leveldb_version.proofs.ReadTableLemmas.{value_of}
-use Rattle.leveldb_version.specs.TableCache.{HasBytesAt, files_at}
+use Rattle.leveldb_version.proofs.Tables.ReadTableLemmas.{value_of}
+use Rattle.leveldb_version.specs.Tables.TableCache.{HasBytesAt, files_at}
 use Rattle.leveldb_store.specs.declared.opening.listing.ListedFile.{ListedFile}
 use Rattle.leveldb_repair.specs.FoundTables.{FindsTable, IsFoundTable, IsListedFile, IsMissingTable, IsThereIfTable, IsUndecodedTable, SizesFile, WhyNoTables}
 use Rattle.leveldb_repair.specs.FoundWalkTable.{IsFoundThere, IsNewFound, OpensFoundAt}

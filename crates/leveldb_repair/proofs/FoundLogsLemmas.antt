@@ -8,10 +8,10 @@ use Rattle.leveldb_base.proofs.HistoryLemmas.{in_cases, in_front, in_none, in_re
 use Rattle.leveldb_base.specs.History.{AreUpTo, Entry, Item, RiseAbove, greatest, placed}
 use Rattle.leveldb_mem.specs.MemTable.{AddsAll, GrowsByAll, IsUnion, MemTableState, entry_key}
 use Rattle.leveldb_mem.specs.WriteBatch.{Batch}
-use Rattle.leveldb_version.proofs.BatchesLemmas.{each_more}
-use Rattle.leveldb_version.proofs.NumbersLemmas.{entries_more, greatest_append, up_to_greatest}
-use Rattle.leveldb_version.proofs.OneStoreLemmas.{flat_in, in_flat}
-use Rattle.leveldb_version.specs.Batches.{Each, batch_entries}
+use Rattle.leveldb_files.proofs.Stores.BatchesLemmas.{each_more}
+use Rattle.leveldb_files.proofs.Histories.NumbersLemmas.{entries_more, greatest_append, up_to_greatest}
+use Rattle.leveldb_files.proofs.Stores.OneStoreLemmas.{flat_in, in_flat}
+use Rattle.leveldb_files.specs.Stores.Batches.{Each, batch_entries}
 use Rattle.leveldb_repair.specs.FoundLogs.{AddsBatch, AreAllTables, BeginsNext, HasRun, HaveEntries, HaveEntry, HaveRuns, InsertsBatch, KeepsEntries}
 use Rattle.leveldb_repair.specs.declared.found_logs.memtables.Memtables.{Memtables}
 

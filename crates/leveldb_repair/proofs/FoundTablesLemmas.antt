@@ -29,18 +29,18 @@ use Rattle.leveldb_table.specs.OpenTable.{file_of}
 use Rattle.leveldb_table.specs.ReadableTable.{IsReadableTable}
 use Rattle.leveldb_table.specs.TableBlock.{FailsFor, KeepsDisk, ReadsFile}
 use Rattle.leveldb_table.specs.TableLaws.{DecodesMore}
-use Rattle.leveldb_version.proofs.BatchesLemmas.{each_more}
-use Rattle.leveldb_version.proofs.ManagedLemmas.{same_name}
-use Rattle.leveldb_version.proofs.OneStoreLemmas.{flat_in, in_flat}
-use Rattle.leveldb_version.proofs.RecoverLemmas.{cause_of_error}
-use Rattle.leveldb_version.specs.Batches.{Each}
-use Rattle.leveldb_version.specs.Format.{Meaning}
-use Rattle.leveldb_version.specs.Found.{IsAnyTable}
-use Rattle.leveldb_version.specs.Paths.{table_path}
-use Rattle.leveldb_version.specs.Store.{IsStoreTable}
-use Rattle.leveldb_store.proofs.OpeningFindLemmas.{listed, no_slash_in_name}
-use Rattle.leveldb_store.specs.Listing.{AreFilesIn, MatchesName}
-use Rattle.leveldb_store.specs.ReplayLog.{HasCauseOr}
+use Rattle.leveldb_files.proofs.Stores.BatchesLemmas.{each_more}
+use Rattle.leveldb_files.proofs.Stores.ManagedLemmas.{same_name}
+use Rattle.leveldb_files.proofs.Stores.OneStoreLemmas.{flat_in, in_flat}
+use Rattle.leveldb_version.proofs.Sets.RecoverLemmas.{cause_of_error}
+use Rattle.leveldb_files.specs.Stores.Batches.{Each}
+use Rattle.leveldb_files.specs.Stores.Format.{Meaning}
+use Rattle.leveldb_version.specs.Repairs.Found.{IsAnyTable}
+use Rattle.leveldb_files.specs.Stores.Paths.{table_path}
+use Rattle.leveldb_files.specs.Stores.Store.{IsStoreTable}
+use Rattle.leveldb_store.proofs.Openings.OpeningFindLemmas.{listed, no_slash_in_name}
+use Rattle.leveldb_store.specs.Openings.Listing.{AreFilesIn, MatchesName}
+use Rattle.leveldb_store.specs.Logs.ReplayLog.{HasCauseOr}
 use Rattle.leveldb_store.specs.declared.opening.listing.ListedFile.{ListedFile}
 use Rattle.leveldb_repair.proofs.FindTableLemmas.{new_after}
 use Rattle.leveldb_repair.proofs.FoundLogsLemmas.{each_right}

@@ -11,9 +11,9 @@ use Rattle.leveldb_env.specs.declared.env.Env.{Ghosts as EnvGhosts}
 use Rattle.leveldb_iter.specs.Walk.{KeyOrder}
 use Rattle.leveldb_iter.specs.declared.merging_iter.MergeWalk.{MergeWalk}
 use Rattle.leveldb_iter.specs.declared.walk.Walk.{Ghosts as WalkGhosts}
-use Rattle.leveldb_version.specs.Paths.{table_path}
-use Rattle.leveldb_store.proofs.BearingLemmas.{IsMergeOf, MovesKeep, NewTablesKeep, bears_new_tables, merge_borne, merge_moves}
-use Rattle.leveldb_store.specs.Merging.{BearsNewTables, MovesLeaveFiles}
+use Rattle.leveldb_files.specs.Stores.Paths.{table_path}
+use Rattle.leveldb_store.proofs.Compactions.BearingLemmas.{IsMergeOf, MovesKeep, NewTablesKeep, bears_new_tables, merge_borne, merge_moves}
+use Rattle.leveldb_store.specs.Compactions.Merging.{BearsNewTables, MovesLeaveFiles}
 use Rattle.leveldb_repair.proofs.FoundWalkBesideLemmas.{walk_at_beside, walk_excuses_beside, walk_over_beside}
 use Rattle.leveldb_repair.specs.FoundWalk.{FailsInWalk, IsWalkAt, IsWalkOver}
 use Rattle.leveldb_repair.specs.FoundWalkTable.{ChangesBesideFound, KeepsFound, MakesFrom}

@@ -31,12 +31,12 @@ use Rattle.leveldb_table.specs.TableReader.{HasIndex, HasParts, IsIndexedAs, IsN
 use Rattle.leveldb_table.specs.TableReaderBlocks.{StartsOver}
 use Rattle.leveldb_table.specs.TableReaderWalk.{TablePlace}
 use Rattle.leveldb_table.specs.declared.block_cache.CachedBlock.{CachedBlock}
-use Rattle.leveldb_version.proofs.SearchLemmas.{all_from_contains}
-use Rattle.leveldb_version.proofs.TableCacheLemmas.{FileHas-at}
-use Rattle.leveldb_version.proofs.TablesInTurnLemmas.{of_all}
-use Rattle.leveldb_version.proofs.VersionLemmas.{internal_total}
-use Rattle.leveldb_version.specs.Store.{IsStoreTable, any_user_key}
-use Rattle.leveldb_version.specs.TableCache.{HasBytesAt, files_at}
+use Rattle.leveldb_version.proofs.Versions.SearchLemmas.{all_from_contains}
+use Rattle.leveldb_version.proofs.Tables.TableCacheLemmas.{FileHas-at}
+use Rattle.leveldb_version.proofs.Tables.TablesInTurnLemmas.{of_all}
+use Rattle.leveldb_version.proofs.Versions.VersionLemmas.{internal_total}
+use Rattle.leveldb_files.specs.Stores.Store.{IsStoreTable, any_user_key}
+use Rattle.leveldb_version.specs.Tables.TableCache.{HasBytesAt, files_at}
 use Rattle.leveldb_repair.proofs.FoundWalkTableLemmas.{IsInternalOrder}
 use Rattle.leveldb_repair.specs.FoundWalkTable.{IsFoundThere, IsNewFound, OpensFile, OpensFound, OpensFoundAt}
 use Rattle.leveldb_repair.specs.declared.found_walk.table.FoundTable.{FoundTable}

@@ -34,11 +34,11 @@ use Rattle.leveldb_table.specs.TableReaderSteps.{step_to}
 use Rattle.leveldb_table.specs.TableReaderWalk.{GivenParts, IsAtPosition, Outcome, TablePlace, inner_pairs, inner_position, table_position}
 use Rattle.leveldb_table.specs.declared.table_reader.walk.TableStep.{TableStep}
 use Rattle.leveldb_table.specs.declared.table_reader.walk.TableStep.TheVariants.{First as FirstStep, Last as LastStep, NextBlock, BlockBefore, Seek as SeekStep}
-use Rattle.leveldb_version.proofs.ReadTableLemmas.{Wants}
-use Rattle.leveldb_version.proofs.TableStepLemmas.{step_leads, step_wants}
-use Rattle.leveldb_version.specs.Format.{Agrees, Format, Meaning}
-use Rattle.leveldb_version.specs.Store.{IsStoreTable, any_user_key}
-use Rattle.leveldb_version.specs.TableMoves.{IsLedTo}
+use Rattle.leveldb_version.proofs.Tables.ReadTableLemmas.{Wants}
+use Rattle.leveldb_version.proofs.Tables.TableStepLemmas.{step_leads, step_wants}
+use Rattle.leveldb_files.specs.Stores.Format.{Agrees, Format, Meaning}
+use Rattle.leveldb_files.specs.Stores.Store.{IsStoreTable, any_user_key}
+use Rattle.leveldb_version.specs.Tables.TableMoves.{IsLedTo}
 use Rattle.leveldb_repair.specs.FoundWalkLaws.{found_fails_before, found_kept}
 use Rattle.leveldb_repair.specs.FoundWalkTable.{FailsBetweenOr, FailsInFound, IsFoundAt, IsFoundOver, IsFoundThere, IsNewFound, IsNoNewTable, KeepsFound, MovesInFound, IsFit, found_here, found_step, way_of}
 use Rattle.leveldb_repair.specs.declared.found_walk.files.ReadFiles.{ReadFiles}

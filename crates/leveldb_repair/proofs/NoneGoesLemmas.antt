@@ -7,8 +7,8 @@ use Rattle.leveldb_base.specs.Entries.{entries_of_pairs, entry_of_pair}
 use Rattle.leveldb_base.specs.History.{Entry}
 use Rattle.leveldb_base.specs.Thinning.{goes, shadows}
 use Rattle.leveldb_base.specs.Types.{Pair}
-use Rattle.leveldb_version.proofs.SearchLemmas.{all_from_contains}
-use Rattle.leveldb_store.specs.Merging.{pairs_left, stays}
+use Rattle.leveldb_version.proofs.Versions.SearchLemmas.{all_from_contains}
+use Rattle.leveldb_store.specs.Compactions.Merging.{pairs_left, stays}
 
 -- where no number is held no entry shadows another
 none_shadows : (newer entry : Entry) → shadows 0 newer entry ≡ false

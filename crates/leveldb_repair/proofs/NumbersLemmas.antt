@@ -11,9 +11,9 @@ use Rattle.std.proofs.lemmas.List.Elements.{All-contains, All-nil}
 use Rattle.leveldb_base.proofs.EntriesLemmas.{in_map}
 use Rattle.leveldb_base.proofs.NamesLemmas.{one_reading}
 use Rattle.leveldb_base.specs.Names.{IsFileName}
-use Rattle.leveldb_store.proofs.ListingLemmas.{all_more}
-use Rattle.leveldb_store.proofs.OpeningFindLemmas.{listed, no_slash_in_name}
-use Rattle.leveldb_store.specs.Listing.{MatchesName}
+use Rattle.leveldb_store.proofs.Openings.ListingLemmas.{all_more}
+use Rattle.leveldb_store.proofs.Openings.OpeningFindLemmas.{listed, no_slash_in_name}
+use Rattle.leveldb_store.specs.Openings.Listing.{MatchesName}
 use Rattle.leveldb_store.specs.declared.opening.listing.ListedFile.{ListedFile}
 use Rattle.leveldb_repair.specs.Numbers.{IsGreatestNumber}
 

@@ -13,12 +13,12 @@ use Rattle.leveldb_table.specs.ReadableTable.{IsNumberedKey, IsReadableTable}
 use Rattle.leveldb_table.specs.TableLaws.{DecodesMore}
 use Rattle.leveldb_base.specs.Cmp.{internal_accepts}
 use Rattle.leveldb_base.specs.KeyTypes.{internal_cmp, user_part}
-use Rattle.leveldb_version.proofs.NewestLemmas.{entries_are}
-use Rattle.leveldb_version.proofs.StoreTablesLemmas.{store_tables_by_more}
-use Rattle.leveldb_version.specs.Batches.{Each}
-use Rattle.leveldb_version.specs.Format.{Meaning}
-use Rattle.leveldb_version.specs.Found.{IsAnyTable, IsReadable}
-use Rattle.leveldb_version.specs.Store.{IsInternalPair, any_user_key}
+use Rattle.leveldb_version.proofs.Tables.NewestLemmas.{entries_are}
+use Rattle.leveldb_files.proofs.Stores.StoreTablesLemmas.{store_tables_by_more}
+use Rattle.leveldb_files.specs.Stores.Batches.{Each}
+use Rattle.leveldb_files.specs.Stores.Format.{Meaning}
+use Rattle.leveldb_version.specs.Repairs.Found.{IsAnyTable, IsReadable}
+use Rattle.leveldb_files.specs.Stores.Store.{IsInternalPair, any_user_key}
 use Rattle.leveldb_repair.specs.FoundTables.{AreNumberedPairs}
 
 -- ---- keys and entries

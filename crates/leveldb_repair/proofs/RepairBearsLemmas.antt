@@ -9,8 +9,8 @@ use Rattle.leveldb_env.specs.declared.env.Env.{Ghosts as EnvGhosts}
 use Rattle.leveldb_iter.specs.MergingIter.{FailsMerged, IsMergeAt, IsMergeOver, merged_here}
 use Rattle.leveldb_iter.specs.declared.merging_iter.MergeWalk.{MergeWalk}
 use Rattle.leveldb_iter.specs.declared.walk.Walk.{Ghosts as WalkGhosts}
-use Rattle.leveldb_store.proofs.BearingLemmas.{IsMergeOf}
-use Rattle.leveldb_store.specs.Merging.{BearsNewTables, MovesLeaveFiles}
+use Rattle.leveldb_store.proofs.Compactions.BearingLemmas.{IsMergeOf}
+use Rattle.leveldb_store.specs.Compactions.Merging.{BearsNewTables, MovesLeaveFiles}
 use Rattle.leveldb_repair.proofs.FoundWalkBearingLemmas.{IsFoundChild, merge_bears_new_tables, merge_leaves_files}
 use Rattle.leveldb_repair.specs.FoundWalk.{FailsInWalk, IsWalkAt, IsWalkOver, walk_here}
 use Rattle.leveldb_repair.specs.FoundWalkTable.{KeepsFound, MakesFrom}

@@ -25,11 +25,11 @@ use Rattle.leveldb_iter.specs.declared.merging_iter.MergeWalk.{MergeWalk}
 use Rattle.leveldb_iter.specs.declared.in_memory.InMemory.{InMemory}
 use Rattle.leveldb_iter.specs.declared.walk.Walk.{Ghosts as WalkGhosts}
 use Rattle.leveldb_mem.specs.MemTable.{MemTableState}
-use Rattle.leveldb_version.proofs.PairwiseLemmas.{as_long, each_of_map, each_second}
-use Rattle.leveldb_version.proofs.SearchLemmas.{all_from_contains}
-use Rattle.leveldb_version.specs.Batches.{Each}
-use Rattle.leveldb_store.proofs.BearingLemmas.{IsMergeOf}
-use Rattle.leveldb_store.specs.View.{IsOverMemory, any_in_order}
+use Rattle.leveldb_version.proofs.Versions.PairwiseLemmas.{as_long, each_of_map, each_second}
+use Rattle.leveldb_version.proofs.Versions.SearchLemmas.{all_from_contains}
+use Rattle.leveldb_files.specs.Stores.Batches.{Each}
+use Rattle.leveldb_store.proofs.Compactions.BearingLemmas.{IsMergeOf}
+use Rattle.leveldb_store.specs.Reading.View.{IsOverMemory, any_in_order}
 use Rattle.leveldb_repair.proofs.FoundWalkBearingLemmas.{IsFoundChild}
 use Rattle.leveldb_repair.proofs.RepairMergeLemmas.{memory_lists}
 use Rattle.leveldb_repair.specs.FoundWalk.{IsWalkOver}

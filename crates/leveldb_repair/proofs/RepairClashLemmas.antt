@@ -17,9 +17,9 @@ use Rattle.leveldb_base.specs.declared.key_types.ValueType.{ValueType}
 use Rattle.leveldb_base.specs.declared.key_types.ValueType.TheVariants.{TypeDeletion, TypeValue}
 use Rattle.leveldb_iter.specs.Merge.{HaveOnePairAKey, IsPairOf}
 use Rattle.leveldb_iter.specs.Walk.{KeyOrder}
-use Rattle.leveldb_version.proofs.OneStoreLemmas.{flat_in, in_flat}
-use Rattle.leveldb_version.specs.Store.{IsInternalPair}
-use Rattle.leveldb_store.specs.Merging.{all_pairs}
+use Rattle.leveldb_files.proofs.Stores.OneStoreLemmas.{flat_in, in_flat}
+use Rattle.leveldb_files.specs.Stores.Store.{IsInternalPair}
+use Rattle.leveldb_store.specs.Compactions.Merging.{all_pairs}
 
 -- ---- the pairs of lists in one list
 

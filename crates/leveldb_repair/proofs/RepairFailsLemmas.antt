@@ -22,11 +22,11 @@ use Rattle.leveldb_iter.specs.Walk.{KeyOrder, key_order}
 use Rattle.leveldb_iter.specs.declared.merging_iter.MergeWalk.{MergeWalk}
 use Rattle.leveldb_iter.specs.declared.walk.Walk.{Ghosts as WalkGhosts}
 use Rattle.leveldb_table.specs.TableBlock.{HasLackCode}
-use Rattle.leveldb_version.proofs.PairwiseLemmas.{each_first}
-use Rattle.leveldb_version.specs.Batches.{Each}
-use Rattle.leveldb_store.proofs.BearingLemmas.{IsMergeOf}
-use Rattle.leveldb_store.specs.Merging.{BearsNewTables, FailsOnWay}
-use Rattle.leveldb_store.specs.View.{any_in_order}
+use Rattle.leveldb_version.proofs.Versions.PairwiseLemmas.{each_first}
+use Rattle.leveldb_files.specs.Stores.Batches.{Each}
+use Rattle.leveldb_store.proofs.Compactions.BearingLemmas.{IsMergeOf}
+use Rattle.leveldb_store.specs.Compactions.Merging.{BearsNewTables, FailsOnWay}
+use Rattle.leveldb_store.specs.Reading.View.{any_in_order}
 use Rattle.leveldb_repair.proofs.FoundWalkBearingLemmas.{IsFoundChild}
 use Rattle.leveldb_repair.proofs.RepairChildrenLemmas.{Over, children_have_merge, children_merged, keys, merge_over}
 use Rattle.leveldb_repair.proofs.RepairClashLemmas.{HaveClash, clash_of}

@@ -23,16 +23,16 @@ use Rattle.leveldb_mem.specs.MemTable.{MemTableState}
 use Rattle.leveldb_table.specs.ReadableTable.{HasUndecodedBlock}
 use Rattle.leveldb_table.specs.TableBlock.{HasLackCode}
 use Rattle.leveldb_table.specs.TableLaws.{DecodesMore}
-use Rattle.leveldb_version.specs.Batches.{Each}
-use Rattle.leveldb_version.specs.Format.{Meaning}
-use Rattle.leveldb_version.specs.Found.{HasNoTableNorLog, IsAnyTable}
-use Rattle.leveldb_store.proofs.ListingLemmas.{entries_listed}
-use Rattle.leveldb_store.proofs.OpeningFindLemmas.{listed as named, no_slash_in_name}
-use Rattle.leveldb_store.specs.BuildTable.{TableChoices}
-use Rattle.leveldb_store.specs.Listing.{AreFilesIn, MatchesName}
-use Rattle.leveldb_store.specs.Merging.{LeavesFiles}
-use Rattle.leveldb_store.specs.OpensStore.{IsBareFolder}
-use Rattle.leveldb_store.specs.ReplayLog.{HasCauseOr}
+use Rattle.leveldb_files.specs.Stores.Batches.{Each}
+use Rattle.leveldb_files.specs.Stores.Format.{Meaning}
+use Rattle.leveldb_version.specs.Repairs.Found.{HasNoTableNorLog, IsAnyTable}
+use Rattle.leveldb_store.proofs.Openings.ListingLemmas.{entries_listed}
+use Rattle.leveldb_store.proofs.Openings.OpeningFindLemmas.{listed as named, no_slash_in_name}
+use Rattle.leveldb_store.specs.Tables.BuildTable.{TableChoices}
+use Rattle.leveldb_store.specs.Openings.Listing.{AreFilesIn, MatchesName}
+use Rattle.leveldb_store.specs.Compactions.Merging.{LeavesFiles}
+use Rattle.leveldb_store.specs.Openings.OpensStore.{IsBareFolder}
+use Rattle.leveldb_store.specs.Logs.ReplayLog.{HasCauseOr}
 use Rattle.leveldb_store.specs.declared.opening.listing.ListedFile.{ListedFile}
 use Rattle.leveldb_repair.proofs.RepairFailsLemmas.{fails_earlier, fails_weaker}
 use Rattle.leveldb_repair.proofs.RepairNumbersLemmas.{greatest_in_folder}

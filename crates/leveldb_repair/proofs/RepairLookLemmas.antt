@@ -19,10 +19,10 @@ use Rattle.leveldb_iter.specs.Merge.{IsPairOf}
 use Rattle.leveldb_iter.specs.Walk.{KeyOrder, key_order}
 use Rattle.leveldb_iter.specs.declared.walk.Walk.{Ghosts as WalkGhosts}
 use Rattle.leveldb_table.specs.TableBlock.{HasLackCode}
-use Rattle.leveldb_version.proofs.OneStoreLemmas.{flat_in}
-use Rattle.leveldb_version.specs.Format.{Agrees, Format, Meaning}
-use Rattle.leveldb_version.specs.Found.{IsAnyTable, IsFound}
-use Rattle.leveldb_store.specs.BuildTable.{TableChoices}
+use Rattle.leveldb_files.proofs.Stores.OneStoreLemmas.{flat_in}
+use Rattle.leveldb_files.specs.Stores.Format.{Agrees, Format, Meaning}
+use Rattle.leveldb_version.specs.Repairs.Found.{IsAnyTable, IsFound}
+use Rattle.leveldb_store.specs.Tables.BuildTable.{TableChoices}
 use Rattle.leveldb_repair.proofs.RepairClashLemmas.{AreUnlikeDeletions, HaveClash, clash_differs}
 use Rattle.leveldb_repair.proofs.RepairFailsLemmas.{fails_weaker}
 use Rattle.leveldb_repair.proofs.RepairMergeLemmas.{AreOfEntries, listed_of_entry}

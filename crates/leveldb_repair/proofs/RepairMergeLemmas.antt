@@ -14,12 +14,12 @@ use Rattle.leveldb_env.specs.Env.{File, Files, bytes_of, in_folder}
 use Rattle.leveldb_iter.specs.Merge.{HaveOnePairAKey, IsMerge, IsPairOf}
 use Rattle.leveldb_iter.specs.Walk.{KeyOrder}
 use Rattle.leveldb_mem.specs.MemTable.{MemTableState}
-use Rattle.leveldb_version.proofs.NumbersLemmas.{placed_above, up_to}
-use Rattle.leveldb_version.proofs.OneStoreLemmas.{flat_in, in_flat}
-use Rattle.leveldb_version.proofs.PairwiseLemmas.{each_second}
-use Rattle.leveldb_version.specs.Batches.{Each, batch_entries}
-use Rattle.leveldb_version.specs.Found.{AreFound, IsFound, IsNumberedBatch, LogHas, TableHas}
-use Rattle.leveldb_version.specs.Store.{IsInternalPair}
+use Rattle.leveldb_files.proofs.Histories.NumbersLemmas.{placed_above, up_to}
+use Rattle.leveldb_files.proofs.Stores.OneStoreLemmas.{flat_in, in_flat}
+use Rattle.leveldb_version.proofs.Versions.PairwiseLemmas.{each_second}
+use Rattle.leveldb_files.specs.Stores.Batches.{Each, batch_entries}
+use Rattle.leveldb_version.specs.Repairs.Found.{AreFound, IsFound, IsNumberedBatch, LogHas, TableHas}
+use Rattle.leveldb_files.specs.Stores.Store.{IsInternalPair}
 use Rattle.leveldb_repair.specs.FoundLogs.{HaveEntry, IsInLog}
 
 -- ---- the pairs and entries of a merge

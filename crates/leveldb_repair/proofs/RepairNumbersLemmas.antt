@@ -18,18 +18,18 @@ use Rattle.leveldb_base.specs.declared.types.FileType.TheVariants.{Log, Table}
 use Rattle.leveldb_env.specs.Env.{Files, ListsChildren, in_folder}
 use Rattle.leveldb_env.specs.declared.env.Env.{Ghosts as EnvGhosts}
 use Rattle.leveldb_env.specs.declared.filter.FilterPolicy.{Ghosts as FilterGhosts}
-use Rattle.leveldb_version.proofs.ManagedLemmas.{kinds_apart}
-use Rattle.leveldb_version.specs.Batches.{Each}
-use Rattle.leveldb_version.specs.Compaction.{files_of_tables}
-use Rattle.leveldb_version.specs.Format.{Agrees, IsTableOf, Meaning}
-use Rattle.leveldb_version.specs.Levels.{LiveTable, table_entries}
-use Rattle.leveldb_version.specs.Repairing.{HasRepairedTables, IsGreatestInFolder}
-use Rattle.leveldb_version.specs.Store.{IsInternalPair}
-use Rattle.leveldb_version.specs.StoreSteps.{IsAboveLogs}
-use Rattle.leveldb_version.specs.VersionEdit.{NewFile}
-use Rattle.leveldb_store.specs.BuildTable.{TableChoices}
-use Rattle.leveldb_store.specs.Listing.{AreFilesIn, AreFilesOf, MatchesName}
-use Rattle.leveldb_store.specs.Outputs.{AreNextNumbers, SameButNewTables}
+use Rattle.leveldb_files.proofs.Stores.ManagedLemmas.{kinds_apart}
+use Rattle.leveldb_files.specs.Stores.Batches.{Each}
+use Rattle.leveldb_version.specs.Compactions.Compaction.{files_of_tables}
+use Rattle.leveldb_files.specs.Stores.Format.{Agrees, IsTableOf, Meaning}
+use Rattle.leveldb_files.specs.Levels.Levels.{LiveTable, table_entries}
+use Rattle.leveldb_version.specs.Repairs.Repairing.{HasRepairedTables, IsGreatestInFolder}
+use Rattle.leveldb_files.specs.Stores.Store.{IsInternalPair}
+use Rattle.leveldb_files.specs.Steps.StoreSteps.{IsAboveLogs}
+use Rattle.leveldb_files.specs.Edits.Edit.{NewFile}
+use Rattle.leveldb_store.specs.Tables.BuildTable.{TableChoices}
+use Rattle.leveldb_store.specs.Openings.Listing.{AreFilesIn, AreFilesOf, MatchesName}
+use Rattle.leveldb_store.specs.Tables.Outputs.{AreNextNumbers, SameButNewTables}
 use Rattle.leveldb_store.specs.declared.opening.listing.ListedFile.{ListedFile}
 use Rattle.leveldb_repair.specs.LookOver.{AreLookedOver}
 use Rattle.leveldb_repair.specs.Numbers.{IsGreatestNumber}

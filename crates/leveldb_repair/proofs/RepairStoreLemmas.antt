@@ -9,12 +9,12 @@ use Rattle.leveldb_env.specs.Env.{AppendedAreBytes, Files, FilesUnchanged, Run}
 use Rattle.leveldb_env.specs.declared.env.Env.{Ghosts as EnvGhosts}
 use Rattle.leveldb_env.specs.declared.filter.FilterPolicy.{Ghosts as FilterGhosts}
 use Rattle.leveldb_table.specs.TableLaws.{DecodesMore}
-use Rattle.leveldb_version.specs.Format.{Agrees, Format, Meaning}
-use Rattle.leveldb_version.specs.Found.{HasNoTableNorLog, IsAnyTable}
-use Rattle.leveldb_version.specs.Repairing.{IsAmidRepair}
-use Rattle.leveldb_store.specs.BuildTable.{TableChoices}
-use Rattle.leveldb_store.specs.Merging.{LeavesFiles}
-use Rattle.leveldb_store.specs.OpensStore.{IsBareFolder}
+use Rattle.leveldb_files.specs.Stores.Format.{Agrees, Format, Meaning}
+use Rattle.leveldb_version.specs.Repairs.Found.{HasNoTableNorLog, IsAnyTable}
+use Rattle.leveldb_version.specs.Repairs.Repairing.{IsAmidRepair}
+use Rattle.leveldb_store.specs.Tables.BuildTable.{TableChoices}
+use Rattle.leveldb_store.specs.Compactions.Merging.{LeavesFiles}
+use Rattle.leveldb_store.specs.Openings.OpensStore.{IsBareFolder}
 use Rattle.leveldb_repair.proofs.RepairFailsLemmas.{fails_earlier, fails_weaker}
 use Rattle.leveldb_repair.specs.FoundWalkTable.{FailsBetweenOr}
 use Rattle.leveldb_repair.specs.RepairStore.{ArePairsFound, AreTooManyFound, HasClash, HasLargeBatchInLog, HasTooFewNumbers, HasUndecodedTable, HasUnlikeDeletions, IsMomentOfRepair, HoldsAllFound, RepairsStore, WhyNotEnded, WhyNotBegun}

@@ -26,10 +26,10 @@ use Rattle.leveldb_iter.specs.Walk.{KeyOrder, key_order}
 use Rattle.leveldb_iter.specs.declared.merging_iter.MergeWalk.{MergeWalk}
 use Rattle.leveldb_iter.specs.declared.walk.Walk.{Ghosts as WalkGhosts}
 use Rattle.leveldb_table.specs.TableBlock.{HasLackCode}
-use Rattle.leveldb_version.proofs.OneStoreLemmas.{in_flat}
-use Rattle.leveldb_store.proofs.BearingLemmas.{IsMergeOf}
-use Rattle.leveldb_store.specs.BuildTable.{TableChoices}
-use Rattle.leveldb_store.specs.View.{any_in_order}
+use Rattle.leveldb_files.proofs.Stores.OneStoreLemmas.{in_flat}
+use Rattle.leveldb_store.proofs.Compactions.BearingLemmas.{IsMergeOf}
+use Rattle.leveldb_store.specs.Tables.BuildTable.{TableChoices}
+use Rattle.leveldb_store.specs.Reading.View.{any_in_order}
 use Rattle.leveldb_repair.proofs.FoundWalkBearingLemmas.{IsFoundChild, merge_bears_new_tables, merge_leaves_files}
 use Rattle.leveldb_repair.proofs.LookOverLemmas.{looked_fits}
 use Rattle.leveldb_repair.proofs.RepairBearsLemmas.{still_makes}

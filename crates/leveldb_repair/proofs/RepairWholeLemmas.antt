@@ -21,13 +21,13 @@ use Rattle.leveldb_iter.specs.MergedEntries.{internal_order}
 use Rattle.leveldb_iter.specs.Walk.{key_order}
 use Rattle.leveldb_iter.specs.declared.in_memory.InMemory.{InMemory}
 use Rattle.leveldb_mem.specs.MemTable.{MemTableState}
-use Rattle.leveldb_version.proofs.OneStoreLemmas.{flat_in}
-use Rattle.leveldb_version.proofs.SearchLemmas.{all_from_contains}
-use Rattle.leveldb_version.specs.Batches.{Each}
-use Rattle.leveldb_version.specs.Found.{IsAnyTable}
-use Rattle.leveldb_store.specs.BuildTable.{TableChoices}
-use Rattle.leveldb_store.specs.Switch.{AreFileNumbersTooFew}
-use Rattle.leveldb_store.specs.View.{IsOverMemory, any_in_order}
+use Rattle.leveldb_files.proofs.Stores.OneStoreLemmas.{flat_in}
+use Rattle.leveldb_version.proofs.Versions.SearchLemmas.{all_from_contains}
+use Rattle.leveldb_files.specs.Stores.Batches.{Each}
+use Rattle.leveldb_version.specs.Repairs.Found.{IsAnyTable}
+use Rattle.leveldb_store.specs.Tables.BuildTable.{TableChoices}
+use Rattle.leveldb_store.specs.Writing.Switch.{AreFileNumbersTooFew}
+use Rattle.leveldb_store.specs.Reading.View.{IsOverMemory, any_in_order}
 use Rattle.leveldb_store.specs.declared.opening.listing.ListedFile.{ListedFile}
 use Rattle.leveldb_repair.proofs.RepairChildrenLemmas.{children_over}
 use Rattle.leveldb_repair.proofs.RepairFoundClashLemmas.{listed_cases, log_pair}

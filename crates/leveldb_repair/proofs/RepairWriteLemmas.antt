@@ -28,25 +28,26 @@ use Rattle.leveldb_env.specs.declared.filter.FilterPolicy.{Ghosts as FilterGhost
 use Rattle.leveldb_iter.specs.Walk.{key_order}
 use Rattle.leveldb_iter.specs.declared.walk.Walk.{Ghosts as WalkGhosts}
 use Rattle.leveldb_table.specs.TableBlock.{HasLackCode}
-use Rattle.leveldb_version.proofs.ManagedLemmas.{kinds_apart}
-use Rattle.leveldb_version.proofs.RepairingKeepsLemmas.{manifests_go_on}
-use Rattle.leveldb_version.proofs.RepairingLemmas.{manifest_repairs}
-use Rattle.leveldb_version.proofs.SearchLemmas.{all_from_contains}
-use Rattle.leveldb_version.proofs.VersionEditLemmas.{is_encodable}
-use Rattle.leveldb_version.specs.Compaction.{files_of_tables}
-use Rattle.leveldb_version.specs.CurrentFile.{temp_path}
-use Rattle.leveldb_version.specs.Format.{Agrees, IsTableOf, Meaning}
-use Rattle.leveldb_version.specs.Found.{AreFound, IsAnyTable}
-use Rattle.leveldb_version.specs.NewManifest.{MakingManifest, with_manifest}
-use Rattle.leveldb_version.specs.NewStore.{MakesManifest}
-use Rattle.leveldb_version.specs.Opening.{FitsEdit}
-use Rattle.leveldb_version.specs.Paths.{current_path, lock_path}
-use Rattle.leveldb_version.specs.Repairing.{IsGreatestInFolder, IsRepairedStore, IsAmidRepair, ManifestRepairs, repaired_edit, repaired_manifest}
-use Rattle.leveldb_version.specs.VersionEdit.{Edit, IsEncodable, NewFile, file_order, new_file_of}
-use Rattle.leveldb_store.specs.BuildTable.{TableChoices}
-use Rattle.leveldb_store.specs.Merging.{AreRead, BearsNewTables, FailsOnWay, IsMergeFault, LeavesFiles}
-use Rattle.leveldb_store.specs.Outputs.{ChangesNewTables, SameButNewTables}
-use Rattle.leveldb_store.specs.TableFile.{FailsToWrite}
+use Rattle.leveldb_files.proofs.Stores.ManagedLemmas.{kinds_apart}
+use Rattle.leveldb_version.proofs.Repairs.RepairingKeepsLemmas.{manifests_go_on}
+use Rattle.leveldb_version.proofs.Repairs.RepairingLemmas.{manifest_repairs}
+use Rattle.leveldb_version.proofs.Versions.SearchLemmas.{all_from_contains}
+use Rattle.leveldb_version.proofs.Edits.VersionEditLemmas.{is_encodable}
+use Rattle.leveldb_version.specs.Compactions.Compaction.{files_of_tables}
+use Rattle.leveldb_version.specs.Sets.CurrentFile.{temp_path}
+use Rattle.leveldb_files.specs.Stores.Format.{Agrees, IsTableOf, Meaning}
+use Rattle.leveldb_version.specs.Repairs.Found.{AreFound, IsAnyTable}
+use Rattle.leveldb_version.specs.Sets.NewManifest.{MakingManifest, with_manifest}
+use Rattle.leveldb_version.specs.Sets.NewStore.{MakesManifest}
+use Rattle.leveldb_version.specs.Engines.Opening.{FitsEdit}
+use Rattle.leveldb_files.specs.Stores.Paths.{current_path, lock_path}
+use Rattle.leveldb_version.specs.Repairs.Repairing.{IsGreatestInFolder, IsRepairedStore, IsAmidRepair, ManifestRepairs, repaired_edit, repaired_manifest}
+use Rattle.leveldb_files.specs.Edits.Edit.{Edit, IsEncodable, NewFile, file_order}
+use Rattle.leveldb_version.specs.Edits.VersionEdit.{new_file_of}
+use Rattle.leveldb_store.specs.Tables.BuildTable.{TableChoices}
+use Rattle.leveldb_store.specs.Compactions.Merging.{AreRead, BearsNewTables, FailsOnWay, IsMergeFault, LeavesFiles}
+use Rattle.leveldb_store.specs.Tables.Outputs.{ChangesNewTables, SameButNewTables}
+use Rattle.leveldb_store.specs.Tables.TableFile.{FailsToWrite}
 use Rattle.leveldb_repair.proofs.RepairFailsLemmas.{fails_weaker}
 use Rattle.leveldb_repair.proofs.RepairNumbersLemmas.{AreRepairedOf, tables_repaired}
 use Rattle.leveldb_repair.proofs.RepairStoreLemmas.{decodes_by}

@@ -12,18 +12,18 @@ use Rattle.leveldb_base.specs.declared.types.FileMetaData.{FileMetaData}
 use Rattle.leveldb_env.specs.declared.env.Env.{Ghosts as EnvGhosts}
 use Rattle.leveldb_env.specs.declared.filter.FilterPolicy.{Ghosts as FilterGhosts}
 use Rattle.leveldb_iter.specs.declared.walk.Walk.{Ghosts as WalkGhosts}
-use Rattle.leveldb_version.proofs.PairwiseLemmas.{each_first}
-use Rattle.leveldb_version.proofs.SearchLemmas.{all_from_contains}
-use Rattle.leveldb_version.specs.Batches.{Each}
-use Rattle.leveldb_version.specs.Format.{Agrees, IsTableOf, Meaning}
-use Rattle.leveldb_version.specs.Levels.{LiveTable}
-use Rattle.leveldb_version.specs.Opening.{FitsEdit}
-use Rattle.leveldb_version.specs.Store.{IsInternalPair}
-use Rattle.leveldb_version.specs.VersionEdit.{new_file_of}
-use Rattle.leveldb_store.specs.BuildTable.{TableChoices}
-use Rattle.leveldb_store.specs.Merging.{MergesInto, MergesTables, all_pairs}
-use Rattle.leveldb_store.proofs.MergedFilesLemmas.{IsFinished, tables_finished}
-use Rattle.leveldb_store.proofs.MergedMadeLemmas.{BuildsForStore, each_output, entries_of_outputs, merged_outputs, outputs_apart, outputs_files, outputs_known}
+use Rattle.leveldb_version.proofs.Versions.PairwiseLemmas.{each_first}
+use Rattle.leveldb_version.proofs.Versions.SearchLemmas.{all_from_contains}
+use Rattle.leveldb_files.specs.Stores.Batches.{Each}
+use Rattle.leveldb_files.specs.Stores.Format.{Agrees, IsTableOf, Meaning}
+use Rattle.leveldb_files.specs.Levels.Levels.{LiveTable}
+use Rattle.leveldb_version.specs.Engines.Opening.{FitsEdit}
+use Rattle.leveldb_files.specs.Stores.Store.{IsInternalPair}
+use Rattle.leveldb_version.specs.Edits.VersionEdit.{new_file_of}
+use Rattle.leveldb_store.specs.Tables.BuildTable.{TableChoices}
+use Rattle.leveldb_store.specs.Compactions.Merging.{MergesInto, MergesTables, all_pairs}
+use Rattle.leveldb_store.proofs.Compactions.MergedFilesLemmas.{IsFinished, tables_finished}
+use Rattle.leveldb_store.proofs.Compactions.MergedMadeLemmas.{BuildsForStore, each_output, entries_of_outputs, merged_outputs, outputs_apart, outputs_files, outputs_known}
 use Rattle.leveldb_repair.specs.WriteFound.{AreLevelOne, HasWritten, WritesFound, files_of_level_one, merge_of_all}
 use Rattle.leveldb_repair.proofs.NoneGoesLemmas.{all_left}
 

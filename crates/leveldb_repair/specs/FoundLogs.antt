@@ -9,11 +9,11 @@ use Rattle.leveldb_env.specs.Env.{File, Files, FilesUnchanged, Run, SameLocks, b
 use Rattle.leveldb_env.specs.declared.env.Env.{Ghosts}
 use Rattle.leveldb_mem.specs.MemTable.{GrowsByAll, IsUnion, MemTableState, bytes_in, memory_of_entries}
 use Rattle.leveldb_mem.specs.WriteBatch.{Batch}
-use Rattle.leveldb_version.specs.Batches.{Each, all_entries, batch_entries}
-use Rattle.leveldb_version.specs.Found.{LogHas}
-use Rattle.leveldb_store.specs.Listing.{AreFilesIn}
-use Rattle.leveldb_store.specs.NextFound.{BeginsAt, HasEntryNumbers, IsFoundAt}
-use Rattle.leveldb_store.specs.ReplayLog.{HasCauseOr}
+use Rattle.leveldb_files.specs.Stores.Batches.{Each, all_entries, batch_entries}
+use Rattle.leveldb_version.specs.Repairs.Found.{LogHas}
+use Rattle.leveldb_store.specs.Openings.Listing.{AreFilesIn}
+use Rattle.leveldb_store.specs.Logs.NextFound.{BeginsAt, HasEntryNumbers, IsFoundAt}
+use Rattle.leveldb_store.specs.Logs.ReplayLog.{HasCauseOr}
 use Rattle.leveldb_store.specs.declared.opening.listing.ListedFile.{ListedFile}
 use Rattle.leveldb_repair.specs.declared.found_logs.memtables.Memtables.{Memtables}
 

@@ -21,12 +21,12 @@ use Rattle.leveldb_table.specs.OpenTable.{file_of}
 use Rattle.leveldb_table.specs.ReadableTable.{HasUndecodedBlock, IsReadableTable}
 use Rattle.leveldb_table.specs.TableBlock.{HasLackCode, ReadsFile}
 use Rattle.leveldb_table.specs.TableLaws.{DecodesMore}
-use Rattle.leveldb_version.specs.Batches.{Each}
-use Rattle.leveldb_version.specs.Format.{Meaning}
-use Rattle.leveldb_version.specs.Found.{IsAnyTable, IsReadable, TableHas}
-use Rattle.leveldb_version.specs.Store.{IsInternalPair}
-use Rattle.leveldb_store.specs.Listing.{AreFilesIn, MatchesName}
-use Rattle.leveldb_store.specs.ReplayLog.{HasCauseOr}
+use Rattle.leveldb_files.specs.Stores.Batches.{Each}
+use Rattle.leveldb_files.specs.Stores.Format.{Meaning}
+use Rattle.leveldb_version.specs.Repairs.Found.{IsAnyTable, IsReadable, TableHas}
+use Rattle.leveldb_files.specs.Stores.Store.{IsInternalPair}
+use Rattle.leveldb_store.specs.Openings.Listing.{AreFilesIn, MatchesName}
+use Rattle.leveldb_store.specs.Logs.ReplayLog.{HasCauseOr}
 use Rattle.leveldb_store.specs.declared.opening.listing.ListedFile.{ListedFile}
 use Rattle.leveldb_repair.specs.FoundWalkTable.{IsFoundAt, IsNewFound}
 use Rattle.leveldb_repair.specs.declared.found_walk.files.ReadFiles.{ReadFiles}

@@ -22,9 +22,9 @@ use Rattle.leveldb_table.specs.TableReaderBlocks.{IsIndexed}
 use Rattle.leveldb_table.specs.TableReaderMoves.{Backward, Forward, ToFirst, ToKey, ToLast}
 use Rattle.leveldb_table.specs.TableReaderSteps.{StepTo}
 use Rattle.leveldb_table.specs.TableReaderWalk.{IsAtPosition, MovesInTable, current_of, inner_position}
-use Rattle.leveldb_version.specs.Paths.{table_path}
-use Rattle.leveldb_version.specs.Store.{IsStoreTable}
-use Rattle.leveldb_version.specs.TableCache.{ForBytesAt, HasBytesAt, files_at}
+use Rattle.leveldb_files.specs.Stores.Paths.{table_path}
+use Rattle.leveldb_files.specs.Stores.Store.{IsStoreTable}
+use Rattle.leveldb_version.specs.Tables.TableCache.{ForBytesAt, HasBytesAt, files_at}
 use Rattle.leveldb_repair.specs.declared.found_walk.files.ReadFiles.{ReadFiles}
 use Rattle.leveldb_repair.specs.declared.found_walk.table.FoundMove.{FoundMove}
 use Rattle.leveldb_repair.specs.declared.found_walk.table.FoundMove.TheVariants.{Before, First, Last, Next, Seek}

@@ -1,8 +1,8 @@
 -- The numbers that the names of a store's files have.
 use Rattle.std.specs.Prelude.{◌≡◌, ◌⊎◌, ◌≤◌, ◌+◌, ℕ, List, All, Any}
 use Rattle.leveldb_env.specs.Env.{Files, ListsChildren}
-use Rattle.leveldb_version.specs.Writing.{NumbersAreBelow}
-use Rattle.leveldb_store.specs.Listing.{AreFilesOf}
+use Rattle.leveldb_version.specs.Engines.Writing.{NumbersAreBelow}
+use Rattle.leveldb_store.specs.Openings.Listing.{AreFilesOf}
 use Rattle.leveldb_store.specs.declared.opening.listing.ListedFile.{ListedFile}
 
 -- the greatest number of these files, or 0

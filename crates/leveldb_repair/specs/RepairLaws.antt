@@ -3,12 +3,12 @@
 use Rattle.std.specs.Prelude.{ℕ, List}
 use Rattle.leveldb_base.specs.History.{SameView}
 use Rattle.leveldb_env.specs.Env.{Files, FilesCrashTo}
-use Rattle.leveldb_version.specs.Format.{Agrees, Format, Meaning}
-use Rattle.leveldb_version.specs.Found.{IsAnyTable}
-use Rattle.leveldb_version.specs.Levels.{table_entries}
-use Rattle.leveldb_version.specs.Repairing.{SameFound}
-use Rattle.leveldb_version.specs.Store.{SameEntries}
-use Rattle.leveldb_version.specs.StoreSteps.{IsKept}
+use Rattle.leveldb_files.specs.Stores.Format.{Agrees, Format, Meaning}
+use Rattle.leveldb_version.specs.Repairs.Found.{IsAnyTable}
+use Rattle.leveldb_files.specs.Levels.Levels.{table_entries}
+use Rattle.leveldb_version.specs.Repairs.Repairing.{SameFound}
+use Rattle.leveldb_files.specs.Stores.Store.{SameEntries}
+use Rattle.leveldb_files.specs.Steps.StoreSteps.{IsKept}
 use Rattle.leveldb_repair.specs.RepairStore.{HoldsAllFound}
 
 -- of the files that a repair left the same entries are found as of the old ones

@@ -21,13 +21,13 @@ use Rattle.leveldb_iter.specs.declared.walk.Walk.{Ghosts as WalkGhosts}
 use Rattle.leveldb_mem.specs.MemTable.{MemTableState}
 use Rattle.leveldb_table.specs.TableBlock.{HasLackCode}
 use Rattle.leveldb_table.specs.TableLaws.{DecodesMore}
-use Rattle.leveldb_version.specs.Batches.{Each}
-use Rattle.leveldb_version.specs.Format.{Agrees, Format, Meaning}
-use Rattle.leveldb_version.specs.Found.{AreFound, HasNoTableNorLog, IsAnyTable}
-use Rattle.leveldb_version.specs.Repairing.{IsGreatestInFolder}
-use Rattle.leveldb_store.specs.BuildTable.{TableChoices}
-use Rattle.leveldb_store.specs.Merging.{BearsNewTables, LeavesFiles, MovesLeaveFiles}
-use Rattle.leveldb_store.specs.View.{IsOverMemory}
+use Rattle.leveldb_files.specs.Stores.Batches.{Each}
+use Rattle.leveldb_files.specs.Stores.Format.{Agrees, Format, Meaning}
+use Rattle.leveldb_version.specs.Repairs.Found.{AreFound, HasNoTableNorLog, IsAnyTable}
+use Rattle.leveldb_version.specs.Repairs.Repairing.{IsGreatestInFolder}
+use Rattle.leveldb_store.specs.Tables.BuildTable.{TableChoices}
+use Rattle.leveldb_store.specs.Compactions.Merging.{BearsNewTables, LeavesFiles, MovesLeaveFiles}
+use Rattle.leveldb_store.specs.Reading.View.{IsOverMemory}
 use Rattle.leveldb_store.specs.declared.opening.listing.ListedFile.{ListedFile}
 use Rattle.leveldb_repair.specs.FoundLogs.{HaveEntry, IsInLog}
 use Rattle.leveldb_repair.specs.FoundTables.{AreNumberedPairs, IsInTable, IsNewWalkOver, IsTablePair, entries_of_lists}

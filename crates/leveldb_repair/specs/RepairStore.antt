@@ -17,15 +17,15 @@ use Rattle.leveldb_env.specs.declared.filter.FilterPolicy.{Ghosts as FilterGhost
 use Rattle.leveldb_table.specs.ReadableTable.{HasUndecodedBlock}
 use Rattle.leveldb_table.specs.TableBlock.{HasLackCode}
 use Rattle.leveldb_table.specs.TableLaws.{DecodesMore}
-use Rattle.leveldb_version.specs.Format.{Agrees, Format, IsTableOf, Meaning}
-use Rattle.leveldb_version.specs.Found.{AreFound, HasNoTableNorLog, IsAnyTable, IsFound}
-use Rattle.leveldb_version.specs.Levels.{LiveTable, table_entries}
-use Rattle.leveldb_version.specs.Paths.{current_path}
-use Rattle.leveldb_version.specs.Repairing.{IsGreatestInFolder, IsRepairedStore, IsAmidRepair}
-use Rattle.leveldb_store.specs.BuildTable.{AreSomeNotBuilt, TableChoices}
-use Rattle.leveldb_store.specs.Listing.{MatchesName}
-use Rattle.leveldb_store.specs.OpensStore.{IsBareFolder}
-use Rattle.leveldb_store.specs.SoundCall.{BytesAreAppended}
+use Rattle.leveldb_files.specs.Stores.Format.{Agrees, Format, IsTableOf, Meaning}
+use Rattle.leveldb_version.specs.Repairs.Found.{AreFound, HasNoTableNorLog, IsAnyTable, IsFound}
+use Rattle.leveldb_files.specs.Levels.Levels.{LiveTable, table_entries}
+use Rattle.leveldb_files.specs.Stores.Paths.{current_path}
+use Rattle.leveldb_version.specs.Repairs.Repairing.{IsGreatestInFolder, IsRepairedStore, IsAmidRepair}
+use Rattle.leveldb_store.specs.Tables.BuildTable.{AreSomeNotBuilt, TableChoices}
+use Rattle.leveldb_store.specs.Openings.Listing.{MatchesName}
+use Rattle.leveldb_store.specs.Openings.OpensStore.{IsBareFolder}
+use Rattle.leveldb_store.specs.Keeping.SoundCall.{BytesAreAppended}
 use Rattle.leveldb_store.specs.declared.opening.listing.ListedFile.{ListedFile}
 use Rattle.leveldb_repair.specs.FoundLogs.{HasLargeBatch, IsInLog}
 use Rattle.leveldb_repair.specs.FoundTables.{IsTablePair}

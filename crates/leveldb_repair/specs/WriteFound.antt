@@ -13,19 +13,20 @@ use Rattle.leveldb_env.specs.declared.env.Env.{Ghosts as EnvGhosts}
 use Rattle.leveldb_env.specs.declared.filter.FilterPolicy.{Ghosts as FilterGhosts}
 use Rattle.leveldb_iter.specs.Walk.{key_order}
 use Rattle.leveldb_iter.specs.declared.walk.Walk.{Ghosts as WalkGhosts}
-use Rattle.leveldb_version.specs.Batches.{Each}
-use Rattle.leveldb_version.specs.Compaction.{files_of_tables}
-use Rattle.leveldb_version.specs.CurrentVersion.{VersionsValue, new_versions}
-use Rattle.leveldb_version.specs.Format.{Agrees, IsTableOf, Meaning}
-use Rattle.leveldb_version.specs.Levels.{LiveTable, table_entries}
-use Rattle.leveldb_version.specs.Opening.{FitsEdit}
-pub use Rattle.leveldb_version.specs.Repairing.{AreLevelOne}
-use Rattle.leveldb_version.specs.Store.{IsInternalPair}
-use Rattle.leveldb_version.specs.VersionEdit.{NewFile, new_file_of}
-use Rattle.leveldb_store.specs.BuildTable.{TableChoices}
-use Rattle.leveldb_store.specs.Merging.{BearsNewTables, IsReachedFrom, FailsOnWay, IsMergeFault, Merge, all_pairs, merge_of}
-use Rattle.leveldb_store.specs.Outputs.{AreTables, ChangesNewTables}
-use Rattle.leveldb_store.specs.TableFile.{FailsToWrite}
+use Rattle.leveldb_files.specs.Stores.Batches.{Each}
+use Rattle.leveldb_version.specs.Compactions.Compaction.{files_of_tables}
+use Rattle.leveldb_version.specs.Sets.CurrentVersion.{VersionsValue, new_versions}
+use Rattle.leveldb_files.specs.Stores.Format.{Agrees, IsTableOf, Meaning}
+use Rattle.leveldb_files.specs.Levels.Levels.{LiveTable, table_entries}
+use Rattle.leveldb_version.specs.Engines.Opening.{FitsEdit}
+pub use Rattle.leveldb_version.specs.Repairs.Repairing.{AreLevelOne}
+use Rattle.leveldb_files.specs.Stores.Store.{IsInternalPair}
+use Rattle.leveldb_files.specs.Edits.Edit.{NewFile}
+use Rattle.leveldb_version.specs.Edits.VersionEdit.{new_file_of}
+use Rattle.leveldb_store.specs.Tables.BuildTable.{TableChoices}
+use Rattle.leveldb_store.specs.Compactions.Merging.{BearsNewTables, IsReachedFrom, FailsOnWay, IsMergeFault, Merge, all_pairs, merge_of}
+use Rattle.leveldb_store.specs.Tables.Outputs.{AreTables, ChangesNewTables}
+use Rattle.leveldb_store.specs.Tables.TableFile.{FailsToWrite}
 
 -- ---- numbers
 

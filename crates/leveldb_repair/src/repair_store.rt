@@ -2,7 +2,7 @@
 //! manifest names.
 // LevelDB: db/repair.cc, Repairer::Run
 ghost use Rattle.leveldb_repair.specs.RepairStore.{RepairsStore};
-ghost use Rattle.leveldb_store.specs.BuildTable.{choices_of};
+ghost use Rattle.leveldb_store.specs.Tables.BuildTable.{choices_of};
 
 use crate::found_walk::ReadFiles;
 use crate::write_found::set_above;

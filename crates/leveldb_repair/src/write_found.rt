@@ -3,10 +3,10 @@
 ghost use Rattle.std.specs.Prelude.{◌≡◌, ◌+◌, ◌<◌, ◌^◌, ◌⊎◌, IfErr, IfOk, OnOk, true, false};
 ghost use Rattle.leveldb_base.specs.Error.{IsOutOfMemory};
 ghost use Rattle.leveldb_repair.specs.WriteFound.{WritesFound, versions_above};
-ghost use Rattle.leveldb_store.specs.BuildTable.{choices_of};
-ghost use Rattle.leveldb_store.specs.Merging.{MovesLeaveFiles};
-ghost use Rattle.leveldb_store.specs.Opening.{GivesNumbers};
-ghost use Rattle.leveldb_store.specs.Switch.{AreFileNumbersTooFew};
+ghost use Rattle.leveldb_store.specs.Tables.BuildTable.{choices_of};
+ghost use Rattle.leveldb_store.specs.Compactions.Merging.{MovesLeaveFiles};
+ghost use Rattle.leveldb_store.specs.Openings.Opening.{GivesNumbers};
+ghost use Rattle.leveldb_store.specs.Writing.Switch.{AreFileNumbersTooFew};
 
 use leveldb_base::cmp::{Cmp, InternalKeyCmp, UserCmp};
 use leveldb_base::error::{Result, StatusCode, err};

@@ -8,10 +8,10 @@ ghost use Rattle.leveldb_base.specs.Types.{Pair, position_within};
 ghost use Rattle.leveldb_env.specs.EnvFile.{opened};
 ghost use Rattle.leveldb_iter.specs.Walk.{key_order};
 ghost use Rattle.leveldb_table.specs.TableBuilder.{order_of};
-ghost use Rattle.leveldb_version.specs.Batches.{Each};
-ghost use Rattle.leveldb_version.specs.Store.{IsInternalPair};
-ghost use Rattle.leveldb_store.specs.BuildTable.{IsUnused, MakesTable, ReadsNoFile, StaysOver, StopsAtPair, WalkFails, choices_of, puts_all};
-ghost use Rattle.leveldb_store.specs.TableFile.{AddsAllToFile, IsThere, StopsWriting};
+ghost use Rattle.leveldb_files.specs.Stores.Batches.{Each};
+ghost use Rattle.leveldb_files.specs.Stores.Store.{IsInternalPair};
+ghost use Rattle.leveldb_store.specs.Tables.BuildTable.{IsUnused, MakesTable, ReadsNoFile, StaysOver, StopsAtPair, WalkFails, choices_of, puts_all};
+ghost use Rattle.leveldb_store.specs.Tables.TableFile.{AddsAllToFile, IsThere, StopsWriting};
 
 use crate::table_file::{TableFile, copied_key, new_builder};
 use leveldb_base::cmp::{Cmp, InternalKeyCmp, UserCmp};

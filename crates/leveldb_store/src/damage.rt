@@ -3,7 +3,7 @@
 ghost use Rattle.std.specs.Prelude.{◌≡◌, ◌≤◌, ◌<◌, ◌+◌, ◌^◌, ◌↔◌, ◌⊎◌, ◌++◌, All, IfNone, IfSome, IsSomeAnd, IsTrue, List, false, length, slice_index, ℕ};
 ghost use Rattle.leveldb_mem.specs.Log.{Fragment, NoFragment, filler, log_block_size, room};
 ghost use Rattle.leveldb_mem.specs.Log.Taking.{HasRightChecksum, declared_length};
-ghost use Rattle.leveldb_store.specs.Damage.{AreWholeUpTo, ContinuesRecord, HasBegun, HasEndFrom, IsHeaded, IsOfKind, IsWholeFront, LosesRecords, StartsWithEnd, parts_after};
+ghost use Rattle.leveldb_store.specs.Logs.Damage.{AreWholeUpTo, ContinuesRecord, HasBegun, HasEndFrom, IsHeaded, IsOfKind, IsWholeFront, LosesRecords, StartsWithEnd, parts_after};
 
 use leveldb_base::crc::{crc32, mask_crc};
 use leveldb_mem::log::{BLOCK_SIZE, HEADER_SIZE};

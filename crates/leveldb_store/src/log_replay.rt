@@ -9,10 +9,10 @@ ghost use Rattle.leveldb_env.specs.EnvFile.{Reads, opened};
 ghost use Rattle.leveldb_env.specs.WholeFiles.{IsLost};
 ghost use Rattle.leveldb_mem.specs.Log.Reader.{FindsNext, StopsReading};
 ghost use Rattle.leveldb_mem.specs.WriteBatch.{IsBatch};
-ghost use Rattle.leveldb_version.specs.Batches.{IsRecordOf};
-ghost use Rattle.leveldb_version.specs.Paths.{log_path};
-ghost use Rattle.leveldb_store.specs.LogReplay.{IsLogToRead, ReadsBatch};
-ghost use Rattle.leveldb_store.specs.NextFound.{IsFileToRead};
+ghost use Rattle.leveldb_files.specs.Stores.Batches.{IsRecordOf};
+ghost use Rattle.leveldb_files.specs.Stores.Paths.{log_path};
+ghost use Rattle.leveldb_store.specs.Logs.LogReplay.{IsLogToRead, ReadsBatch};
+ghost use Rattle.leveldb_store.specs.Logs.NextFound.{IsFileToRead};
 
 use leveldb_base::error::{Result, StatusCode, err};
 use leveldb_base::names::log_file_name;
@@ -58,7 +58,7 @@ pub struct LogReplay<E: Env> {
 
 impl<E: Env> Model for LogReplay<E> {
     ghost use Rattle.std.specs.Prelude.{◌≡◌, IsTrue, string_bytes};
-    ghost use Rattle.leveldb_store.specs.LogReplay.{LogReplayState};
+    ghost use Rattle.leveldb_store.specs.Logs.LogReplay.{LogReplayState};
 
     ghost Value = { LogReplayState };
 

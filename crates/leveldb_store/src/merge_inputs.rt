@@ -2,7 +2,7 @@
 // LevelDB: db/version_set.cc, VersionSet::MakeInputIterator
 ghost use Rattle.std.specs.Prelude.{IfErr, IfOk};
 ghost use Rattle.leveldb_base.specs.Error.{IsOutOfMemory};
-ghost use Rattle.leveldb_store.specs.MergeInputs.{MergesTablesOf};
+ghost use Rattle.leveldb_store.specs.Compactions.MergeInputs.{MergesTablesOf};
 
 use leveldb_base::cmp::{Cmp, InternalKeyCmp, UserCmp};
 use leveldb_base::error::Result;

@@ -3,10 +3,10 @@
 // LevelDB: db/db_impl.cc, DBImpl::DoCompactionWork
 ghost use Rattle.std.specs.Prelude.{◌≡◌, List, ℕ};
 ghost use Rattle.leveldb_base.specs.Types.{Pair};
-ghost use Rattle.leveldb_store.specs.BuildTable.{choices_of};
-ghost use Rattle.leveldb_store.specs.Merging.{HasMerged, MergesTables, MovesLeaveFiles, TakesPair, merge_of};
-ghost use Rattle.leveldb_store.specs.Opening.{GivesNumbers, TakesBackNew};
-ghost use Rattle.leveldb_store.specs.Switch.{MayGiveNumber};
+ghost use Rattle.leveldb_store.specs.Tables.BuildTable.{choices_of};
+ghost use Rattle.leveldb_store.specs.Compactions.Merging.{HasMerged, MergesTables, MovesLeaveFiles, TakesPair, merge_of};
+ghost use Rattle.leveldb_store.specs.Openings.Opening.{GivesNumbers, TakesBackNew};
+ghost use Rattle.leveldb_store.specs.Writing.Switch.{MayGiveNumber};
 
 use crate::outputs::Outputs;
 use crate::passing::{MergeLevels, Passing};

@@ -1,7 +1,7 @@
 //! An open store: what is in memory of it, and the log to which batches are appended.
 // LevelDB: db/db_impl.h, DBImpl
 ghost use Rattle.std.specs.Prelude.{◌≡◌, ◌↔◌, IsTrue, false};
-ghost use Rattle.leveldb_store.specs.OpenStore.{IsUnbroken};
+ghost use Rattle.leveldb_store.specs.Keeping.OpenStore.{IsUnbroken};
 
 mod compact;
 mod compact_range;
@@ -76,9 +76,9 @@ impl<E: Env, C: Cmp> Model for OpenStore<E, C> {
     ghost use Rattle.std.specs.Prelude.{◌≡◌, ◌≢◌, ◌<◌, ◌^◌, [], IfSome, IsTrue, string_bytes};
     ghost use Rattle.std.specs.Option.{option_map};
     ghost use Rattle.leveldb_base.specs.History.{AreUpTo};
-    ghost use Rattle.leveldb_version.specs.Paths.{log_path};
-    ghost use Rattle.leveldb_version.specs.VersionSetValue.{unmade};
-    ghost use Rattle.leveldb_store.specs.OpenStore.{AreInLevels, AreNumbersGiven, HasOwnManifest, OpenStoreValue};
+    ghost use Rattle.leveldb_files.specs.Stores.Paths.{log_path};
+    ghost use Rattle.leveldb_version.specs.Sets.VersionSetValue.{unmade};
+    ghost use Rattle.leveldb_store.specs.Keeping.OpenStore.{AreInLevels, AreNumbersGiven, HasOwnManifest, OpenStoreValue};
 
     ghost Value = { OpenStoreValue C };
 

@@ -2,10 +2,10 @@
 // LevelDB: db/db_impl.cc, DB::Open
 ghost use Rattle.std.specs.Prelude.{◌≡◌, IfOk, None};
 ghost use Rattle.leveldb_env.specs.Env.{HasCause};
-ghost use Rattle.leveldb_store.specs.BuildTable.{choices_of};
-ghost use Rattle.leveldb_version.specs.Format.{format_of};
-ghost use Rattle.leveldb_store.specs.OpensStore.{FailsToOpen, OpensStore};
-ghost use Rattle.leveldb_store.specs.SoundCall.{BytesAreAppended};
+ghost use Rattle.leveldb_store.specs.Tables.BuildTable.{choices_of};
+ghost use Rattle.leveldb_files.specs.Stores.Format.{format_of};
+ghost use Rattle.leveldb_store.specs.Openings.OpensStore.{FailsToOpen, OpensStore};
+ghost use Rattle.leveldb_store.specs.Keeping.SoundCall.{BytesAreAppended};
 
 mod begin;
 mod edit;

@@ -6,10 +6,10 @@ ghost use Rattle.std.specs.Str.{bytes_eq};
 ghost use Rattle.leveldb_base.specs.KeyTypes.{user_part};
 ghost use Rattle.leveldb_base.specs.Types.{Pair};
 ghost use Rattle.leveldb_table.specs.TableBuilder.{last_of, order_of};
-ghost use Rattle.leveldb_store.specs.BuildTable.{choices_of};
-ghost use Rattle.leveldb_store.specs.Outputs.{AddsPair, AreCutBefore, AreTables, ChangesNewTables, FinishesOpen, HaveOutputs, IsBeginFault, PutsPair, is_due, no_outputs};
-ghost use Rattle.leveldb_store.specs.Switch.{MayGiveNumber};
-ghost use Rattle.leveldb_store.specs.TableFile.{FailsToWrite};
+ghost use Rattle.leveldb_store.specs.Tables.BuildTable.{choices_of};
+ghost use Rattle.leveldb_store.specs.Tables.Outputs.{AddsPair, AreCutBefore, AreTables, ChangesNewTables, FinishesOpen, HaveOutputs, IsBeginFault, PutsPair, is_due, no_outputs};
+ghost use Rattle.leveldb_store.specs.Writing.Switch.{MayGiveNumber};
+ghost use Rattle.leveldb_store.specs.Tables.TableFile.{FailsToWrite};
 
 use crate::table_file::{TableFile, copied_key, new_builder};
 use leveldb_base::cmp::{Cmp, InternalKeyCmp, UserCmp};
@@ -40,7 +40,7 @@ pub struct Outputs<E: Env, C: UserCmp + Copy + Drop, FP: FilterPolicy + Copy + D
 
 impl<E: Env, C: UserCmp + Copy + Drop, FP: FilterPolicy + Copy + Drop> Model for Outputs<E, C, FP> {
     ghost use Rattle.leveldb_base.specs.declared.cmp.internal.InternalKeyCmp.{InternalKeyCmp};
-    ghost use Rattle.leveldb_store.specs.Outputs.{OutputsValue};
+    ghost use Rattle.leveldb_store.specs.Tables.Outputs.{OutputsValue};
 
     ghost Value = { OutputsValue E (InternalKeyCmp C) FP E.File };
 

@@ -7,7 +7,7 @@ ghost use Rattle.leveldb_base.specs.History.{Entry};
 ghost use Rattle.leveldb_base.specs.KeyTypes.{sequence_part, type_part, user_part};
 ghost use Rattle.leveldb_base.specs.Thinning.{goes_after};
 ghost use Rattle.leveldb_base.specs.Types.{Pair};
-ghost use Rattle.leveldb_store.specs.Passing.{IsJustBefore, may_follow, number_of};
+ghost use Rattle.leveldb_store.specs.Compactions.Passing.{IsJustBefore, may_follow, number_of};
 
 use leveldb_base::cmp::Cmp;
 use leveldb_base::error::Result;

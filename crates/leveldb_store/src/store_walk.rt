@@ -33,9 +33,9 @@ impl<
     K: ReadsTables<E, C, FP>,
     M: LdbIterator,
 > Walk<E, ReadTables<'b, E, C, FP, K>> for StoreWalk<'a, C, M> {
-    ghost use Rattle.leveldb_store.specs.StoreWalk.{IsStoreOver, IsStoreAt, FailsInStore, store_here};
-    ghost use Rattle.leveldb_store.specs.StoreWalkLaws.{store_laws};
-    ghost use Rattle.leveldb_version.specs.VersionIter.{KeepsReading};
+    ghost use Rattle.leveldb_store.specs.Reading.StoreWalk.{IsStoreOver, IsStoreAt, FailsInStore, store_here};
+    ghost use Rattle.leveldb_store.specs.Reading.StoreWalkLaws.{store_laws};
+    ghost use Rattle.leveldb_version.specs.Walks.VersionIter.{KeepsReading};
 
     ghost over = { IsStoreOver ⟦<InternalKeyCmp<C> as Cmp>⟧ E.Env C.Cmp FP.FilterPolicy K.codings
         M.LdbIterator };

@@ -6,7 +6,7 @@ ghost use Rattle.leveldb_base.specs.Error.{IsOutOfMemory};
 ghost use Rattle.leveldb_env.specs.Env.{AreBytes, BeforeOrAfter, ChangesFiles, HasCause, SameLocks, emptied};
 ghost use Rattle.leveldb_env.specs.EnvFile.{opened};
 ghost use Rattle.leveldb_table.specs.TableBuilder.{IsNewBuilder, KeepsChoices, last_of, order_of, table_estimate};
-ghost use Rattle.leveldb_store.specs.TableFile.{AddsToFile, FinishesFile, IsAddFault, IsFinishFault, IsMetadataOf, IsThere, StopsWriting};
+ghost use Rattle.leveldb_store.specs.Tables.TableFile.{AddsToFile, FinishesFile, IsAddFault, IsFinishFault, IsMetadataOf, IsThere, StopsWriting};
 
 use bytes::Bytes;
 use leveldb_base::cmp::{Cmp, InternalKeyCmp, UserCmp};

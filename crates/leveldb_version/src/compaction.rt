@@ -4,18 +4,19 @@ ghost use Rattle.std.specs.Prelude.{◌≡◌, ◌≢◌, ◌↔◌, ◌<◌, �
 ghost use Rattle.std.specs.Option.{option_copied, option_map};
 ghost use Rattle.leveldb_base.specs.Error.{IsOutOfMemory};
 ghost use Rattle.leveldb_base.specs.KeyTypes.{user_part};
-ghost use Rattle.leveldb_version.specs.Compaction.{MayMove, closed_range, is_base_level_for};
-ghost use Rattle.leveldb_version.specs.CompactionEdit.{SetsPointer};
-ghost use Rattle.leveldb_version.specs.Contradictions.{IsAmongInputs, is_among_inputs};
-ghost use Rattle.leveldb_version.specs.Cut.{PassesFiles};
-ghost use Rattle.leveldb_version.specs.Inputs.{MayTake, input_files};
-ghost use Rattle.leveldb_version.specs.Overlap.{overlapping};
-ghost use Rattle.leveldb_version.specs.Picking.{DeletesFiles, IsCompactionOf, OnlyPoints};
-ghost use Rattle.leveldb_version.specs.Search.{AreDisjointLevels};
-ghost use Rattle.leveldb_version.specs.Summary.{files_of_level, total_size};
-ghost use Rattle.leveldb_version.specs.Version.{at_level, borrowed_files, new_files_of};
-ghost use Rattle.leveldb_version.specs.VersionEdit.{NewFile, edit_of, new_file_of};
-ghost use Rattle.leveldb_version.specs.VersionIters.{AreVersionIters};
+ghost use Rattle.leveldb_version.specs.Compactions.Compaction.{MayMove, closed_range, is_base_level_for};
+ghost use Rattle.leveldb_version.specs.Compactions.CompactionEdit.{SetsPointer};
+ghost use Rattle.leveldb_version.specs.Compactions.Contradictions.{IsAmongInputs, is_among_inputs};
+ghost use Rattle.leveldb_version.specs.Compactions.Cut.{PassesFiles};
+ghost use Rattle.leveldb_version.specs.Compactions.Inputs.{MayTake, input_files};
+ghost use Rattle.leveldb_files.specs.Levels.Overlap.{overlapping};
+ghost use Rattle.leveldb_version.specs.Compactions.Picking.{DeletesFiles, IsCompactionOf, OnlyPoints};
+ghost use Rattle.leveldb_version.specs.Versions.Search.{AreDisjointLevels};
+ghost use Rattle.leveldb_files.specs.Levels.Summary.{files_of_level, total_size};
+ghost use Rattle.leveldb_version.specs.Versions.Version.{at_level, borrowed_files, new_files_of};
+ghost use Rattle.leveldb_files.specs.Edits.Edit.{NewFile};
+ghost use Rattle.leveldb_version.specs.Edits.VersionEdit.{edit_of, new_file_of};
+ghost use Rattle.leveldb_version.specs.Walks.VersionIters.{AreVersionIters};
 
 use crate::version::{Version, VersionIter, product};
 use crate::version_edit::VersionEdit;
@@ -56,11 +57,11 @@ pub struct Compaction<C: UserCmp + Copy + Drop> {
 }
 
 impl<C: UserCmp + Copy + Drop> Model for Compaction<C> {
-    ghost use Rattle.leveldb_version.specs.Picking.{CompactionValue};
+    ghost use Rattle.leveldb_version.specs.Compactions.Picking.{CompactionValue};
 
     ghost Value = { CompactionValue C };
 
-    ghost use Rattle.leveldb_version.specs.VersionEdit.{edit_of};
+    ghost use Rattle.leveldb_version.specs.Edits.VersionEdit.{edit_of};
 
     ghost view = { λ it. record {
       version = it.version;
@@ -73,8 +74,8 @@ impl<C: UserCmp + Copy + Drop> Model for Compaction<C> {
     } };
 
     ghost use Rattle.std.specs.Prelude.{◌≡◌};
-    ghost use Rattle.leveldb_version.specs.Compaction.{MayCompact};
-    ghost use Rattle.leveldb_version.specs.Version.{new_files_of};
+    ghost use Rattle.leveldb_version.specs.Compactions.Compaction.{MayCompact};
+    ghost use Rattle.leveldb_version.specs.Versions.Version.{new_files_of};
 
     ghost invariant = { λ it. (it.inputs.cmp ≡ it.version.cmp)
         × MayCompact (C.cmp it.version.cmp) (new_files_of it.version) it.level

@@ -4,8 +4,8 @@ ghost use Rattle.std.specs.Prelude.{◌≡◌, IfErr, IfOk, IsTrue, OnErr, OnOk,
 ghost use Rattle.leveldb_base.specs.Error.{IsOutOfMemory};
 ghost use Rattle.leveldb_env.specs.Env.{Files};
 ghost use Rattle.leveldb_table.specs.TableReaderMoves.{found_with};
-ghost use Rattle.leveldb_version.specs.Format.{format_of};
-ghost use Rattle.leveldb_version.specs.TableCache.{EvictsTable, GetsPair, IsNewTableCache, LooksUpInOpen, MatchesFiles, MayFail, OpensNumbered, OpensTableAt, OpensTableFile, TableOptions, UsesTable, files_at, found_key, options_by, renewed, table_at, table_key, table_options};
+ghost use Rattle.leveldb_files.specs.Stores.Format.{format_of};
+ghost use Rattle.leveldb_version.specs.Tables.TableCache.{EvictsTable, GetsPair, IsNewTableCache, LooksUpInOpen, MatchesFiles, MayFail, OpensNumbered, OpensTableAt, OpensTableFile, TableOptions, UsesTable, files_at, found_key, options_by, renewed, table_at, table_key, table_options};
 
 use bytes::Bytes;
 use leveldb_base::cmp::{Cmp, InternalKeyCmp, UserCmp};

@@ -4,10 +4,10 @@ ghost use Rattle.std.specs.Prelude.{◌≡◌, ◌<◌, ◌≤◌, [], None, IfO
 ghost use Rattle.std.specs.Option.{option_copied, option_map};
 ghost use Rattle.leveldb_base.specs.Error.{IsOutOfMemory};
 ghost use Rattle.leveldb_base.specs.KeyTypes.{user_part};
-ghost use Rattle.leveldb_version.specs.Overlap.{AreDisjointRanges, AreInputs, IsFileFor, is_overlapped, may_go_to, named_range, output_level};
-ghost use Rattle.leveldb_version.specs.Summary.{files_of_level, summary_text, total_size};
-ghost use Rattle.leveldb_version.specs.Version.{AreInVersionOrder, FilesFit, IsVersionOf, at_level, borrowed_files, charged, new_files_of};
-ghost use Rattle.leveldb_version.specs.VersionEdit.{new_file_of};
+ghost use Rattle.leveldb_files.specs.Levels.Overlap.{AreDisjointRanges, AreInputs, IsFileFor, is_overlapped, may_go_to, named_range, output_level};
+ghost use Rattle.leveldb_files.specs.Levels.Summary.{files_of_level, summary_text, total_size};
+ghost use Rattle.leveldb_version.specs.Versions.Version.{AreInVersionOrder, FilesFit, IsVersionOf, at_level, borrowed_files, charged, new_files_of};
+ghost use Rattle.leveldb_version.specs.Edits.VersionEdit.{new_file_of};
 
 use crate::version_set::summary_of;
 use leveldb_base::cmp::{Cmp, UserCmp};
@@ -57,15 +57,15 @@ pub struct Version<C: Cmp> {
 }
 
 impl<C: Cmp> Model for Version<C> {
-    ghost use Rattle.leveldb_version.specs.Version.{VersionValue};
+    ghost use Rattle.leveldb_version.specs.Versions.Version.{VersionValue};
 
     ghost Value = { VersionValue C };
 
     ghost view = { λ it. record { cmp = it.cmp; files = it.files.items; chosen = it.chosen } };
 
     ghost use Rattle.std.specs.Prelude.{map};
-    ghost use Rattle.leveldb_version.specs.Version.{AreInVersionOrder, FilesFit};
-    ghost use Rattle.leveldb_version.specs.VersionEdit.{new_file_of};
+    ghost use Rattle.leveldb_version.specs.Versions.Version.{AreInVersionOrder, FilesFit};
+    ghost use Rattle.leveldb_version.specs.Edits.VersionEdit.{new_file_of};
 
     ghost invariant = { λ it. AreInVersionOrder (C.cmp it.cmp) (map new_file_of it.files.items)
         × FilesFit it.files.items };

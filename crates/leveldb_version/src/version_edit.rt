@@ -7,8 +7,9 @@ ghost use Rattle.std.specs.Prelude.{◌≡◌, ◌⊎◌, [], ◌∷◌, ◌++�
 ghost use Rattle.std.specs.BTreeSet.{insert_key};
 ghost use Rattle.leveldb_base.specs.Error.{IsOutOfMemory};
 ghost use Rattle.leveldb_base.specs.declared.error.StatusCode.TheVariants.{Corruption};
-ghost use Rattle.leveldb_version.specs.VersionEdit.{Edit, IsEdit, LevelsFit, HasNoSeeks, empty_edit, file_order, edit_bytes, edit_of, with_field};
-ghost use Rattle.leveldb_version.specs.Fields.{field_of, files_in};
+ghost use Rattle.leveldb_files.specs.Edits.Edit.{Edit, IsEdit, LevelsFit, empty_edit, file_order, edit_bytes, with_field};
+ghost use Rattle.leveldb_version.specs.Edits.VersionEdit.{HasNoSeeks, edit_of};
+ghost use Rattle.leveldb_version.specs.Edits.Fields.{field_of, files_in};
 
 use bytes::Bytes;
 use leveldb_base::error::{Result, StatusCode, err};

@@ -3,9 +3,9 @@
 ghost use Rattle.std.specs.Prelude.{◌≡◌, ◌≤◌, false, is_some, length, true};
 ghost use Rattle.std.specs.List.Sorted.{IsPartitionPoint, IsPartitionedBy};
 ghost use Rattle.leveldb_base.specs.Types.{next_position, pair_of, previous_position};
-ghost use Rattle.leveldb_version.specs.TableMoves.{IsToEnd, LeavesPairs, StepsInBlock, core_position};
-ghost use Rattle.leveldb_version.specs.VersionIter.{ends_before_key};
-ghost use Rattle.leveldb_version.specs.VersionIters.{IsNewVersionIter};
+ghost use Rattle.leveldb_version.specs.Tables.TableMoves.{IsToEnd, LeavesPairs, StepsInBlock, core_position};
+ghost use Rattle.leveldb_version.specs.Walks.VersionIter.{ends_before_key};
+ghost use Rattle.leveldb_version.specs.Walks.VersionIters.{IsNewVersionIter};
 ghost use Rattle.leveldb_base.specs.declared.types.FileMetaData.{FileMetaData};
 
 use crate::table_cache::{ReadTables, ReadsTables};
@@ -54,7 +54,7 @@ pub fn new_version_iter<'a, C: UserCmp + Copy + Drop>(
 }
 
 impl<'a, C: UserCmp + Copy + Drop> VersionIter<'a, C> {
-    ghost use Rattle.leveldb_version.specs.VersionIter.{MovesToFile, StepsInFile, KeepsTableOrNone};
+    ghost use Rattle.leveldb_version.specs.Walks.VersionIter.{MovesToFile, StepsInFile, KeepsTableOrNone};
 
     // Moves to no position.
     fn leave(&mut self)
@@ -197,8 +197,8 @@ impl<
     FP: FilterPolicy + Copy + Drop,
     K: ReadsTables<E, C, FP>,
 > Walk<E, ReadTables<'b, E, C, FP, K>> for VersionIter<'a, C> {
-    ghost use Rattle.leveldb_version.specs.VersionIter.{IsOverTables, IsAtInTables, FailsInTables, KeepsReading, version_here};
-    ghost use Rattle.leveldb_version.specs.VersionIterLaws.{version_laws};
+    ghost use Rattle.leveldb_version.specs.Walks.VersionIter.{IsOverTables, IsAtInTables, FailsInTables, KeepsReading, version_here};
+    ghost use Rattle.leveldb_version.specs.Walks.VersionIterLaws.{version_laws};
 
     ghost over = { IsOverTables ⟦<InternalKeyCmp<C> as Cmp>⟧ E.Env C.Cmp FP.FilterPolicy
         K.codings };

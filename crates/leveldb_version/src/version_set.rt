@@ -2,8 +2,8 @@
 //! that keeps it.
 // LevelDB: db/version_set.cc, VersionSet
 ghost use Rattle.std.specs.Prelude.{◌≡◌, ◌↔◌, IsTrue, OnOk, IfErr, map};
-ghost use Rattle.leveldb_version.specs.VersionEdit.{new_file_of};
-ghost use Rattle.leveldb_version.specs.VersionSet.{IsKeyRange, HaveKeyRanges};
+ghost use Rattle.leveldb_version.specs.Edits.VersionEdit.{new_file_of};
+ghost use Rattle.leveldb_files.specs.Edits.VersionSet.{IsKeyRange, HaveKeyRanges};
 
 use leveldb_base::cmp::Cmp;
 use leveldb_base::error::{Result, Status, StatusCode};

@@ -5,7 +5,7 @@ ghost use Rattle.leveldb_base.specs.Error.{IsOutOfMemory};
 ghost use Rattle.leveldb_base.specs.Types.{copied_pair, last_position, next_position, pair_of, position_within, previous_position, seek_position};
 ghost use Rattle.leveldb_base.specs.declared.error.StatusCode.TheVariants.{InvalidArgument};
 ghost use Rattle.leveldb_base.specs.KeyTypes.{IsLongKey};
-ghost use Rattle.rusty_leveldb.specs.ReadSamples.{CountsRead};
+ghost use Rattle.rusty_leveldb.specs.Walks.ReadSamples.{CountsRead};
 
 use crate::read_samples::ReadSamples;
 pub use crate::read_samples::sample_period;
@@ -57,7 +57,7 @@ impl<
     K: ReadsTables<E, C, FP>,
     V: Walk<E, ReadTables<'a, E, C, FP, K>> + CountsBytes,
 > StoreIterator<'a, E, C, FP, K, V> {
-    ghost use Rattle.rusty_leveldb.specs.Iterator.{MovesIterator, moved, no_cause, pair_in};
+    ghost use Rattle.rusty_leveldb.specs.Walks.Iterator.{MovesIterator, moved, no_cause, pair_in};
 
     /// Moves to the next pair, from no position to the first, and from the last to no position.
     /// Returns whether it is at a pair.

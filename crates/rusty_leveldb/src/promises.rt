@@ -1,12 +1,12 @@
 //! The laws of the store's machine, as contracts of functions that do nothing.
 
-ghost use Rattle.rusty_leveldb.specs.CompactionLaws.{AreViewsInTables};
-ghost use Rattle.rusty_leveldb.specs.Iterator.{ScanGivesPairs};
-ghost use Rattle.rusty_leveldb.specs.IteratorLaws.{PrevUndoesNext};
-ghost use Rattle.rusty_leveldb.specs.Laws.{OneReading, NothingStands, CrashBetween, CrashInside, CrashSince, RefusalHasCause, StepFits, CrashFits, CrashInsideFits, LivesFit, DurableStays, SyncedStays, EachAnswerParts, HistoryIsAsked, HistoryIsPlaced, MoreIsAsked, LongItemMakesLongBatch, SyncedIsRead, ViewsStay, HeldStays, SnapshotIsRead, ForwardWalkGivesView, PrevUndoesAdvance, SyncedCanBeFound};
-ghost use Rattle.leveldb_store.specs.BuildTable.{choices_of};
-ghost use Rattle.rusty_leveldb.specs.ReadAloneLaws.{ReadingKeepsStates, ReadsWhatOpens};
-ghost use Rattle.rusty_leveldb.specs.RepairLaws.{AnotherRepairFindsTheSame, CrashSinceRepair, OpensWhatRepairFound, RepairFindsWhatOpens};
+ghost use Rattle.rusty_leveldb.specs.Compactions.CompactionLaws.{AreViewsInTables};
+ghost use Rattle.rusty_leveldb.specs.Walks.Iterator.{ScanGivesPairs};
+ghost use Rattle.rusty_leveldb.specs.Walks.IteratorLaws.{PrevUndoesNext};
+ghost use Rattle.rusty_leveldb.specs.Machines.Laws.{OneReading, NothingStands, CrashBetween, CrashInside, CrashSince, RefusalHasCause, StepFits, CrashFits, CrashInsideFits, LivesFit, DurableStays, SyncedStays, EachAnswerParts, HistoryIsAsked, HistoryIsPlaced, MoreIsAsked, LongItemMakesLongBatch, SyncedIsRead, ViewsStay, HeldStays, SnapshotIsRead, ForwardWalkGivesView, PrevUndoesAdvance, SyncedCanBeFound};
+ghost use Rattle.leveldb_store.specs.Tables.BuildTable.{choices_of};
+ghost use Rattle.rusty_leveldb.specs.Openings.ReadAloneLaws.{ReadingKeepsStates, ReadsWhatOpens};
+ghost use Rattle.rusty_leveldb.specs.Repairs.RepairLaws.{AnotherRepairFindsTheSame, CrashSinceRepair, OpensWhatRepairFound, RepairFindsWhatOpens};
 
 use leveldb_base::cmp::{Cmp, InternalKeyCmp, UserCmp};
 use leveldb_env::compressor::{CompressorList, Compressors};

@@ -3,7 +3,7 @@
 ghost use Rattle.std.specs.Prelude.{◌≡◌, ◌%◌, [], IfErr, OnErr, OnOk, Some};
 ghost use Rattle.leveldb_base.specs.Error.{IsOutOfMemory};
 ghost use Rattle.rand_core.specs.Stream.{next_u64};
-ghost use Rattle.rusty_leveldb.specs.ReadSamples.{DrawsPeriod, SamplesKey, TakesBytes, after_charges, seeded, with_charge_of};
+ghost use Rattle.rusty_leveldb.specs.Walks.ReadSamples.{DrawsPeriod, SamplesKey, TakesBytes, after_charges, seeded, with_charge_of};
 
 use leveldb_base::cmp::UserCmp;
 use leveldb_base::error::Result;
@@ -41,7 +41,7 @@ pub struct ReadSamples {
 
 impl Model for ReadSamples {
     ghost use Rattle.std.specs.Prelude.{◌≤◌, length};
-    ghost use Rattle.rusty_leveldb.specs.ReadSamples.{SamplesValue};
+    ghost use Rattle.rusty_leveldb.specs.Walks.ReadSamples.{SamplesValue};
 
     ghost Value = { SamplesValue };
 

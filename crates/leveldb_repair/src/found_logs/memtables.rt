@@ -4,7 +4,7 @@ ghost use Rattle.std.specs.Prelude.{◌≡◌, ◌<◌, ◌⊎◌, [], IfErr, If
 ghost use Rattle.leveldb_base.specs.Error.{IsOutOfMemory};
 ghost use Rattle.leveldb_base.specs.History.{AreUpTo};
 ghost use Rattle.leveldb_mem.specs.MemTable.{HasRoom};
-ghost use Rattle.leveldb_store.specs.NextFound.{HasEntryNumbers};
+ghost use Rattle.leveldb_store.specs.Logs.NextFound.{HasEntryNumbers};
 ghost use Rattle.leveldb_repair.specs.FoundLogs.{AddsBatch, AreAllTables, BeginsNext, HaveEntries, InsertsBatch, IsTooLargeAlone, KeepsEntries};
 
 use leveldb_base::cmp::UserCmp;

@@ -5,10 +5,10 @@ ghost use Rattle.leveldb_base.specs.Error.{IsOutOfMemory};
 ghost use Rattle.leveldb_repair.specs.RepairSteps.{AreOverFound, IsOverAll, IsOverFound};
 ghost use Rattle.leveldb_repair.specs.RepairStore.{RepairsStore};
 ghost use Rattle.leveldb_repair.specs.WriteFound.{files_of_level_one};
-ghost use Rattle.leveldb_store.specs.BuildTable.{choices_of};
-ghost use Rattle.leveldb_store.specs.Merging.{LeavesFiles};
-ghost use Rattle.leveldb_version.specs.Repairing.{repaired_edit};
-ghost use Rattle.leveldb_version.specs.VersionEdit.{edit_of};
+ghost use Rattle.leveldb_store.specs.Tables.BuildTable.{choices_of};
+ghost use Rattle.leveldb_store.specs.Compactions.Merging.{LeavesFiles};
+ghost use Rattle.leveldb_version.specs.Repairs.Repairing.{repaired_edit};
+ghost use Rattle.leveldb_version.specs.Edits.VersionEdit.{edit_of};
 
 use crate::found_walk::{FoundTable, FoundWalk, ReadFiles, ReadsFound};
 use crate::look_over::{LookedOver, look_over};

@@ -2,7 +2,7 @@
 //! no batch of a store.
 ghost use Rattle.std.specs.Prelude.{◌↔◌, IfErr, IfOk, IsTrue};
 ghost use Rattle.leveldb_base.specs.Error.{IsOutOfMemory};
-ghost use Rattle.leveldb_store.specs.NextFound.{FindsNextBatch, HasEntryNumbers, TellsNumbered};
+ghost use Rattle.leveldb_store.specs.Logs.NextFound.{FindsNextBatch, HasEntryNumbers, TellsNumbered};
 
 use super::{LogReplay, next_record, one_fewer};
 use leveldb_base::error::{Result, StatusCode};

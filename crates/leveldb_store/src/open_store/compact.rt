@@ -3,13 +3,13 @@
 // LevelDB: db/db_impl.cc, DBImpl::BackgroundCompaction
 ghost use Rattle.std.specs.Prelude.{◌≡◌, ◌⊎◌, ◌++◌, IfErr, IfSome, None, Option, OnOk, is_some, map};
 ghost use Rattle.leveldb_base.specs.Error.{IsOutOfMemory};
-ghost use Rattle.leveldb_version.specs.Format.{format_of};
-ghost use Rattle.leveldb_version.specs.Picking.{CompactionValue, IsAskedByReads, IsCompactionOf};
-ghost use Rattle.leveldb_version.specs.TableCache.{table_options};
-ghost use Rattle.leveldb_store.specs.BuildTable.{choices_of};
-ghost use Rattle.leveldb_store.specs.Compact.{CompactsIfAsked, CompactsStore, CompactsTables, EndsByRemoval, LogsPicked};
-ghost use Rattle.leveldb_store.specs.CompactPicked.{CompactsPicked, CompactsWithoutLoss};
-ghost use Rattle.leveldb_store.specs.OpenStore.{IsUnbroken};
+ghost use Rattle.leveldb_files.specs.Stores.Format.{format_of};
+ghost use Rattle.leveldb_version.specs.Compactions.Picking.{CompactionValue, IsAskedByReads, IsCompactionOf};
+ghost use Rattle.leveldb_version.specs.Tables.TableCache.{table_options};
+ghost use Rattle.leveldb_store.specs.Tables.BuildTable.{choices_of};
+ghost use Rattle.leveldb_store.specs.Compactions.Compact.{CompactsIfAsked, CompactsStore, CompactsTables, EndsByRemoval, LogsPicked};
+ghost use Rattle.leveldb_store.specs.Compactions.CompactPicked.{CompactsPicked, CompactsWithoutLoss};
+ghost use Rattle.leveldb_store.specs.Keeping.OpenStore.{IsUnbroken};
 
 use super::OpenStore;
 use leveldb_base::cmp::{Cmp, InternalKeyCmp, UserCmp};

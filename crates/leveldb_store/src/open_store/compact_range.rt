@@ -3,17 +3,17 @@
 ghost use Rattle.std.specs.Prelude.{◌≡◌, ◌<◌, [], IfErr, IfOk, IfSome, None, OnOk, false, is_some, true};
 ghost use Rattle.leveldb_base.specs.Error.{IsOutOfMemory};
 ghost use Rattle.leveldb_base.specs.KeyTypes.{user_part};
-ghost use Rattle.leveldb_version.specs.CurrentVersion.{IsCurrent};
-ghost use Rattle.leveldb_version.specs.Format.{format_of};
-ghost use Rattle.leveldb_version.specs.Overlap.{is_overlapped, named_range};
-ghost use Rattle.leveldb_version.specs.Picking.{IsCompactionOf};
-ghost use Rattle.leveldb_version.specs.TableCache.{table_options};
-ghost use Rattle.leveldb_store.specs.BuildTable.{choices_of};
-ghost use Rattle.leveldb_store.specs.Compact.{CompactsRange, CompactsTables, KeepsLevelsAbove, deepest_overlapped};
-ghost use Rattle.leveldb_store.specs.KeptEntries.{CompactsInTurn, CompactsMemtables};
-ghost use Rattle.leveldb_store.specs.OpenStore.{IsUnbroken};
-ghost use Rattle.leveldb_store.specs.Room.{FailsToMakeRoom};
-ghost use Rattle.leveldb_store.specs.RoomSteps.{IsStepToRoom, MakesTablesOfMemory};
+ghost use Rattle.leveldb_version.specs.Sets.CurrentVersion.{IsCurrent};
+ghost use Rattle.leveldb_files.specs.Stores.Format.{format_of};
+ghost use Rattle.leveldb_files.specs.Levels.Overlap.{is_overlapped, named_range};
+ghost use Rattle.leveldb_version.specs.Compactions.Picking.{IsCompactionOf};
+ghost use Rattle.leveldb_version.specs.Tables.TableCache.{table_options};
+ghost use Rattle.leveldb_store.specs.Tables.BuildTable.{choices_of};
+ghost use Rattle.leveldb_store.specs.Compactions.Compact.{CompactsRange, CompactsTables, KeepsLevelsAbove, deepest_overlapped};
+ghost use Rattle.leveldb_store.specs.Keeping.KeptEntries.{CompactsInTurn, CompactsMemtables};
+ghost use Rattle.leveldb_store.specs.Keeping.OpenStore.{IsUnbroken};
+ghost use Rattle.leveldb_store.specs.Writing.Room.{FailsToMakeRoom};
+ghost use Rattle.leveldb_store.specs.Writing.RoomSteps.{IsStepToRoom, MakesTablesOfMemory};
 
 use super::OpenStore;
 use leveldb_base::cmp::{Cmp, InternalKeyCmp, UserCmp};

@@ -1,9 +1,9 @@
 //! Logs and manifests that an opening left aside: what it left out of them, and what is kept then.
 ghost use Rattle.std.specs.Prelude.{◌≡◌, ◌≤◌, ◌↔◌, ℕ, List, Contains, IfOk, IsTrue, is_some, map, string_bytes};
 ghost use Rattle.leveldb_table.specs.TableBlock.{KeepsDisk};
-ghost use Rattle.leveldb_store.specs.Damage.{HasDamagedFile, IsDamagedFile, IsLeftAside};
-ghost use Rattle.leveldb_version.specs.Paths.{log_path};
-ghost use Rattle.leveldb_store.specs.LogReplay.{EndsCleanly};
+ghost use Rattle.leveldb_store.specs.Logs.Damage.{HasDamagedFile, IsDamagedFile, IsLeftAside};
+ghost use Rattle.leveldb_files.specs.Stores.Paths.{log_path};
+ghost use Rattle.leveldb_store.specs.Logs.LogReplay.{EndsCleanly};
 
 use super::OpenStore;
 use crate::damage::{LeftOut, left_out};

@@ -1,10 +1,10 @@
 //! The end of an opening: one compaction is done at most, and what is obsolete is deleted.
 // LevelDB: db/db_impl.cc, the end of DB::Open
 ghost use Rattle.std.specs.Prelude.{◌≡◌, None, is_some};
-ghost use Rattle.leveldb_version.specs.TableCache.{table_options};
-ghost use Rattle.leveldb_store.specs.BuildTable.{choices_of};
-ghost use Rattle.leveldb_store.specs.EndsOpening.{EndsOpening};
-ghost use Rattle.leveldb_store.specs.OpenStore.{IsUnbroken};
+ghost use Rattle.leveldb_version.specs.Tables.TableCache.{table_options};
+ghost use Rattle.leveldb_store.specs.Tables.BuildTable.{choices_of};
+ghost use Rattle.leveldb_store.specs.Openings.EndsOpening.{EndsOpening};
+ghost use Rattle.leveldb_store.specs.Keeping.OpenStore.{IsUnbroken};
 
 use super::OpenStore;
 use leveldb_base::cmp::{Cmp, InternalKeyCmp, UserCmp};

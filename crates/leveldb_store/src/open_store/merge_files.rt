@@ -5,15 +5,15 @@ ghost use Rattle.std.specs.Prelude.{◌≡◌, ◌≢◌, ◌+◌, ◌↔◌, If
 ghost use Rattle.std.specs.declared.cmp.Ordering.TheVariants.{Less};
 ghost use Rattle.leveldb_base.specs.KeyTypes.{user_part};
 ghost use Rattle.leveldb_env.specs.Env.{AreBytes};
-ghost use Rattle.leveldb_version.specs.Compaction.{is_base_level_for};
-ghost use Rattle.leveldb_version.specs.Contradictions.{is_among_inputs};
-ghost use Rattle.leveldb_version.specs.Format.{format_of};
-ghost use Rattle.leveldb_version.specs.Picking.{IsCompactionOf};
-ghost use Rattle.leveldb_version.specs.TableCache.{options_by, table_options};
-ghost use Rattle.leveldb_version.specs.Version.{new_files_of};
-ghost use Rattle.leveldb_version.specs.VersionIter.{reading as reading_by};
-ghost use Rattle.leveldb_store.specs.BuildTable.{choices_of};
-ghost use Rattle.leveldb_store.specs.Compact.{IsMovedAlone, IsOfStore, MakesReplacements, of_level};
+ghost use Rattle.leveldb_version.specs.Compactions.Compaction.{is_base_level_for};
+ghost use Rattle.leveldb_version.specs.Compactions.Contradictions.{is_among_inputs};
+ghost use Rattle.leveldb_files.specs.Stores.Format.{format_of};
+ghost use Rattle.leveldb_version.specs.Compactions.Picking.{IsCompactionOf};
+ghost use Rattle.leveldb_version.specs.Tables.TableCache.{options_by, table_options};
+ghost use Rattle.leveldb_version.specs.Versions.Version.{new_files_of};
+ghost use Rattle.leveldb_version.specs.Walks.VersionIter.{reading as reading_by};
+ghost use Rattle.leveldb_store.specs.Tables.BuildTable.{choices_of};
+ghost use Rattle.leveldb_store.specs.Compactions.Compact.{IsMovedAlone, IsOfStore, MakesReplacements, of_level};
 
 use super::OpenStore;
 use crate::merge_inputs::merge_inputs;
@@ -176,9 +176,9 @@ struct InputLevels<'c, C: UserCmp + Copy + Drop> {
 }
 
 impl<'c, C: UserCmp + Copy + Drop> Model for InputLevels<'c, C> {
-    ghost use Rattle.leveldb_version.specs.Picking.{CompactionValue};
-    ghost use Rattle.leveldb_version.specs.Search.{AreDisjointLevels};
-    ghost use Rattle.leveldb_version.specs.Version.{new_files_of};
+    ghost use Rattle.leveldb_version.specs.Compactions.Picking.{CompactionValue};
+    ghost use Rattle.leveldb_version.specs.Versions.Search.{AreDisjointLevels};
+    ghost use Rattle.leveldb_version.specs.Versions.Version.{new_files_of};
 
     ghost Value = { CompactionValue C };
 

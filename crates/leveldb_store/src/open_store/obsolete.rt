@@ -3,12 +3,12 @@
 ghost use Rattle.std.specs.Prelude.{◌≡◌, ◌↔◌, IsTrue, map, string_bytes};
 ghost use Rattle.leveldb_base.specs.declared.types.FileType.TheVariants.{Log, Table};
 ghost use Rattle.leveldb_env.specs.Env.{ListsChildren};
-ghost use Rattle.leveldb_version.specs.VersionSetValue.{numbers_in_order};
-ghost use Rattle.leveldb_version.specs.Writing.{IsObsolete};
-ghost use Rattle.leveldb_version.specs.Format.{Meaning};
-ghost use Rattle.leveldb_store.specs.OpenTables.{ClosesObsolete};
-ghost use Rattle.leveldb_store.specs.Switch.{IsFirstError, RemovesName, RemovesNames, RemovesObsolete};
-ghost use Rattle.leveldb_store.specs.Written.{KeepsWritten};
+ghost use Rattle.leveldb_version.specs.Sets.VersionSetValue.{numbers_in_order};
+ghost use Rattle.leveldb_version.specs.Engines.Writing.{IsObsolete};
+ghost use Rattle.leveldb_files.specs.Stores.Format.{Meaning};
+ghost use Rattle.leveldb_store.specs.Keeping.OpenTables.{ClosesObsolete};
+ghost use Rattle.leveldb_store.specs.Writing.Switch.{IsFirstError, RemovesName, RemovesNames, RemovesObsolete};
+ghost use Rattle.leveldb_store.specs.Keeping.Written.{KeepsWritten};
 
 use super::OpenStore;
 use leveldb_base::cmp::UserCmp;

@@ -3,14 +3,14 @@
 ghost use Rattle.std.specs.Prelude.{◌≡◌, IfErr, IfOk};
 ghost use Rattle.leveldb_base.specs.Entries.{FindsNewest, lookup_copied, value_found};
 ghost use Rattle.leveldb_base.specs.Error.{IsOutOfMemory};
-ghost use Rattle.leveldb_version.specs.Format.{format_of};
-ghost use Rattle.leveldb_version.specs.Sampling.{ChargesForSample};
-ghost use Rattle.leveldb_version.specs.Search.{LooksUpNewest};
-ghost use Rattle.leveldb_version.specs.TableCache.{table_options};
-ghost use Rattle.leveldb_version.specs.Version.{new_files_of};
-ghost use Rattle.leveldb_store.specs.OpenStore.{AreInLevels, AreNumbersGiven};
-ghost use Rattle.leveldb_version.specs.CurrentVersion.{IsCurrent};
-ghost use Rattle.leveldb_store.specs.Read.{FindsInMemory, LooksUpKey, sought_key, with_charge};
+ghost use Rattle.leveldb_files.specs.Stores.Format.{format_of};
+ghost use Rattle.leveldb_version.specs.Versions.Sampling.{ChargesForSample};
+ghost use Rattle.leveldb_version.specs.Versions.Search.{LooksUpNewest};
+ghost use Rattle.leveldb_version.specs.Tables.TableCache.{table_options};
+ghost use Rattle.leveldb_version.specs.Versions.Version.{new_files_of};
+ghost use Rattle.leveldb_store.specs.Keeping.OpenStore.{AreInLevels, AreNumbersGiven};
+ghost use Rattle.leveldb_version.specs.Sets.CurrentVersion.{IsCurrent};
+ghost use Rattle.leveldb_store.specs.Reading.Read.{FindsInMemory, LooksUpKey, sought_key, with_charge};
 
 use super::OpenStore;
 use bytes::Bytes;

@@ -2,14 +2,14 @@
 //! deleted.
 // LevelDB: db/db_impl.cc, DBImpl::MakeRoomForWrite
 ghost use Rattle.std.specs.Prelude.{◌≡◌, ◌≢◌, ◌↔◌, None, IfOk, IsTrue, is_some};
-ghost use Rattle.leveldb_store.specs.BuildTable.{choices_of};
-ghost use Rattle.leveldb_version.specs.Format.{Agrees, format_of};
-ghost use Rattle.leveldb_store.specs.OpenStore.{IsUnbroken};
-ghost use Rattle.leveldb_store.specs.OpenTables.{ClosesObsolete};
-ghost use Rattle.leveldb_store.specs.Room.{IsFull, MakesRoom, RemovesAtLast, TidiesUp, but_removal};
-ghost use Rattle.leveldb_store.specs.RoomSteps.{MakesTablesOfMemory, CompactsMemtable};
-ghost use Rattle.leveldb_store.specs.SoundCall.{BytesAreAppended, IsSoundCall, TimeGoesOn};
-ghost use Rattle.leveldb_store.specs.Switch.{RemovesObsolete};
+ghost use Rattle.leveldb_store.specs.Tables.BuildTable.{choices_of};
+ghost use Rattle.leveldb_files.specs.Stores.Format.{Agrees, format_of};
+ghost use Rattle.leveldb_store.specs.Keeping.OpenStore.{IsUnbroken};
+ghost use Rattle.leveldb_store.specs.Keeping.OpenTables.{ClosesObsolete};
+ghost use Rattle.leveldb_store.specs.Writing.Room.{IsFull, MakesRoom, RemovesAtLast, TidiesUp, but_removal};
+ghost use Rattle.leveldb_store.specs.Writing.RoomSteps.{MakesTablesOfMemory, CompactsMemtable};
+ghost use Rattle.leveldb_store.specs.Keeping.SoundCall.{BytesAreAppended, IsSoundCall, TimeGoesOn};
+ghost use Rattle.leveldb_store.specs.Writing.Switch.{RemovesObsolete};
 
 use super::OpenStore;
 use leveldb_base::cmp::{Cmp, InternalKeyCmp, UserCmp};

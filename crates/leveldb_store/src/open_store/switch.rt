@@ -2,10 +2,10 @@
 //! log of the next number.
 // LevelDB: db/db_impl.cc, DBImpl::MakeRoomForWrite
 ghost use Rattle.std.specs.Prelude.{◌≡◌, ◌≢◌, ◌↔◌, [], None, IsTrue, false};
-ghost use Rattle.leveldb_version.specs.Format.{Meaning};
-ghost use Rattle.leveldb_store.specs.SoundCall.{IsSoundCall, any_meaning};
-ghost use Rattle.leveldb_store.specs.Switch.{SwitchesLog};
-ghost use Rattle.leveldb_store.specs.Written.{KeepsWritten};
+ghost use Rattle.leveldb_files.specs.Stores.Format.{Meaning};
+ghost use Rattle.leveldb_store.specs.Keeping.SoundCall.{IsSoundCall, any_meaning};
+ghost use Rattle.leveldb_store.specs.Writing.Switch.{SwitchesLog};
+ghost use Rattle.leveldb_store.specs.Keeping.Written.{KeepsWritten};
 
 use super::{OpenLog, OpenStore};
 use leveldb_base::cmp::UserCmp;

@@ -2,14 +2,14 @@
 // LevelDB: db/db_impl.cc, DBImpl::NewInternalIterator
 ghost use Rattle.std.specs.Prelude.{◌≡◌, ◌≤◌, ◌+◌, ◌++◌, ◌<◌, ◌^◌, IfErr, IfOk, List, OnOk, map, length, vec_len, vec_capacity};
 ghost use Rattle.leveldb_iter.specs.Moves.{MovesAll};
-ghost use Rattle.leveldb_version.specs.Format.{format_of};
-ghost use Rattle.leveldb_version.specs.TableCache.{options_by, table_options};
-ghost use Rattle.leveldb_version.specs.VersionIter.{reading as reading_by};
+ghost use Rattle.leveldb_files.specs.Stores.Format.{format_of};
+ghost use Rattle.leveldb_version.specs.Tables.TableCache.{options_by, table_options};
+ghost use Rattle.leveldb_version.specs.Walks.VersionIter.{reading as reading_by};
 ghost use Rattle.leveldb_base.specs.Error.{IsOutOfMemory};
-ghost use Rattle.leveldb_store.specs.OpenStore.{AreInLevels, AreNumbersGiven};
-ghost use Rattle.leveldb_version.specs.CurrentVersion.{IsCurrent};
+ghost use Rattle.leveldb_store.specs.Keeping.OpenStore.{AreInLevels, AreNumbersGiven};
+ghost use Rattle.leveldb_version.specs.Sets.CurrentVersion.{IsCurrent};
 ghost use Rattle.leveldb_store.specs.declared.store_walk.StoreWalk.TheVariants.{Tables};
-ghost use Rattle.leveldb_store.specs.View.{AreChildrenOf, IsReadingOf, ReadsAlone, ViewsMerge, ViewsStore, WalksStore};
+ghost use Rattle.leveldb_store.specs.Reading.View.{AreChildrenOf, IsReadingOf, ReadsAlone, ViewsMerge, ViewsStore, WalksStore};
 
 use super::OpenStore;
 use crate::store_walk::StoreWalk;

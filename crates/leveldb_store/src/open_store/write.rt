@@ -4,10 +4,10 @@ ghost use Rattle.std.specs.Prelude.{◌≡◌, ◌+◌, IfErr, IfOk, OnErr, OnOk
 ghost use Rattle.leveldb_env.specs.Env.{AreBytes};
 ghost use Rattle.leveldb_mem.specs.Log.Writer.{broken_writer};
 ghost use Rattle.leveldb_mem.specs.WriteBatch.{BatchOf, batch_bytes};
-ghost use Rattle.leveldb_store.specs.SoundCall.{IsSoundCall, any_meaning};
-ghost use Rattle.leveldb_store.specs.Write.{AppendsToLog, AreNumbersUsedUp, CanBeInserted, HasNumbers, InsertsBatch, PreparesBatch, SyncsLog, with_writer};
-ghost use Rattle.leveldb_store.specs.WriteBatch.{SyncsBatches};
-ghost use Rattle.leveldb_store.specs.Written.{SparesRest};
+ghost use Rattle.leveldb_store.specs.Keeping.SoundCall.{IsSoundCall, any_meaning};
+ghost use Rattle.leveldb_store.specs.Writing.Write.{AppendsToLog, AreNumbersUsedUp, CanBeInserted, HasNumbers, InsertsBatch, PreparesBatch, SyncsLog, with_writer};
+ghost use Rattle.leveldb_store.specs.Writing.WriteBatch.{SyncsBatches};
+ghost use Rattle.leveldb_store.specs.Keeping.Written.{SparesRest};
 
 use super::OpenStore;
 use leveldb_base::cmp::UserCmp;

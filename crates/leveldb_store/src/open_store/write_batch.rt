@@ -3,10 +3,10 @@
 ghost use Rattle.std.specs.Prelude.{◌≡◌, ◌≤◌, OnOk, length};
 ghost use Rattle.leveldb_env.specs.Env.{AreBytes};
 ghost use Rattle.leveldb_mem.specs.WriteBatch.{BatchOf, batch_bytes, max_length};
-ghost use Rattle.leveldb_store.specs.OpenStore.{IsUnbroken};
-ghost use Rattle.leveldb_store.specs.SoundCall.{IsSoundCall, any_meaning};
-ghost use Rattle.leveldb_store.specs.Write.{LogsText};
-ghost use Rattle.leveldb_store.specs.WriteBatch.{WritesBatch};
+ghost use Rattle.leveldb_store.specs.Keeping.OpenStore.{IsUnbroken};
+ghost use Rattle.leveldb_store.specs.Keeping.SoundCall.{IsSoundCall, any_meaning};
+ghost use Rattle.leveldb_store.specs.Writing.Write.{LogsText};
+ghost use Rattle.leveldb_store.specs.Writing.WriteBatch.{WritesBatch};
 
 use super::OpenStore;
 use leveldb_base::cmp::UserCmp;

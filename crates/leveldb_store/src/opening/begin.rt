@@ -3,8 +3,8 @@
 // LevelDB: db/db_impl.cc, DBImpl::Recover and DB::Open
 ghost use Rattle.std.specs.Prelude.{◌≡◌, IfOk, None};
 ghost use Rattle.leveldb_env.specs.Env.{SameLocks};
-ghost use Rattle.leveldb_store.specs.BuildTable.{choices_of};
-ghost use Rattle.leveldb_store.specs.OpeningSteps.{OpensToWrite, LogsIfWanted, MayBeWritten};
+ghost use Rattle.leveldb_store.specs.Tables.BuildTable.{choices_of};
+ghost use Rattle.leveldb_store.specs.Openings.OpeningSteps.{OpensToWrite, LogsIfWanted, MayBeWritten};
 
 use super::edit::log_edit;
 use super::log_to_write::open_log;

@@ -3,9 +3,9 @@
 ghost use Rattle.std.specs.Prelude.{◌≡◌, IfErr, IfOk};
 ghost use Rattle.leveldb_base.specs.Error.{IsOutOfMemory};
 ghost use Rattle.leveldb_env.specs.Env.{SameLocks};
-ghost use Rattle.leveldb_version.specs.Opening.{tables_edit};
-ghost use Rattle.leveldb_version.specs.VersionEdit.{edit_of};
-ghost use Rattle.leveldb_store.specs.OpeningSteps.{LogsTables, made_files};
+ghost use Rattle.leveldb_version.specs.Engines.Opening.{tables_edit};
+ghost use Rattle.leveldb_version.specs.Edits.VersionEdit.{edit_of};
+ghost use Rattle.leveldb_store.specs.Openings.OpeningSteps.{LogsTables, made_files};
 
 use leveldb_base::cmp::UserCmp;
 use leveldb_base::error::Result;

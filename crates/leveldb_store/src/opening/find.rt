@@ -2,8 +2,8 @@
 // LevelDB: db/db_impl.cc, DBImpl::Recover and NewDB
 ghost use Rattle.std.specs.Prelude.{◌≡◌, ◌⊎◌, ◌↔◌, Any, IfOk, IfSome, IsTrue};
 ghost use Rattle.leveldb_base.specs.declared.types.FileType.TheVariants.{Current, Log, Table};
-ghost use Rattle.leveldb_store.specs.Listing.{AreFilesIn};
-ghost use Rattle.leveldb_store.specs.OpeningSteps.{FindsStore};
+ghost use Rattle.leveldb_store.specs.Openings.Listing.{AreFilesIn};
+ghost use Rattle.leveldb_store.specs.Openings.OpeningSteps.{FindsStore};
 
 use super::listing::{ListedFile, list_files};
 use leveldb_base::cmp::Cmp;

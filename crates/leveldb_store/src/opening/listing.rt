@@ -4,9 +4,9 @@ ghost use Rattle.std.specs.Prelude.{◌≡◌, ◌⊎◌, ◌++◌, [], ◌∷�
 ghost use Rattle.leveldb_base.specs.Error.{IsOutOfMemory};
 ghost use Rattle.leveldb_base.specs.declared.error.StatusCode.TheVariants.{Corruption};
 ghost use Rattle.leveldb_env.specs.Env.{FilesUnchanged, Run, SameLocks};
-ghost use Rattle.leveldb_store.specs.Listing.{AddsFile, AreFilesIn, AreFilesOf};
-ghost use Rattle.leveldb_store.specs.OpensStore.{IsBareFolder};
-ghost use Rattle.leveldb_store.specs.ReplayLog.{HasCauseOr};
+ghost use Rattle.leveldb_store.specs.Openings.Listing.{AddsFile, AreFilesIn, AreFilesOf};
+ghost use Rattle.leveldb_store.specs.Openings.OpensStore.{IsBareFolder};
+ghost use Rattle.leveldb_store.specs.Logs.ReplayLog.{HasCauseOr};
 
 use leveldb_base::error::Result;
 use leveldb_base::names::file_name_parts;

@@ -3,11 +3,11 @@
 ghost use Rattle.std.specs.Prelude.{◌≡◌, ◌+◌, ◌<◌, ◌^◌, IfSome, OnOk, OnErr};
 ghost use Rattle.leveldb_base.specs.Error.{IsOutOfMemory};
 ghost use Rattle.leveldb_env.specs.Env.{HasCause, created, emptied};
-ghost use Rattle.leveldb_version.specs.Paths.{log_path};
-ghost use Rattle.leveldb_version.specs.VersionSetValue.{AreFileNumbersUsedUp, with_number_given};
-ghost use Rattle.leveldb_store.specs.OpeningSteps.{OpensFile, OpensLog};
-ghost use Rattle.leveldb_store.specs.ReplayLog.{HasCauseOr};
-ghost use Rattle.leveldb_store.specs.Switch.{MayGiveNumber};
+ghost use Rattle.leveldb_files.specs.Stores.Paths.{log_path};
+ghost use Rattle.leveldb_version.specs.Sets.VersionSetValue.{AreFileNumbersUsedUp, with_number_given};
+ghost use Rattle.leveldb_store.specs.Openings.OpeningSteps.{OpensFile, OpensLog};
+ghost use Rattle.leveldb_store.specs.Logs.ReplayLog.{HasCauseOr};
+ghost use Rattle.leveldb_store.specs.Writing.Switch.{MayGiveNumber};
 
 use super::replay::UsedLog;
 use crate::open_store::OpenLog;

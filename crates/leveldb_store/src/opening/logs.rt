@@ -5,8 +5,8 @@ ghost use Rattle.leveldb_base.specs.Error.{IsOutOfMemory};
 ghost use Rattle.leveldb_base.specs.Names.{file_name};
 ghost use Rattle.leveldb_base.specs.declared.error.StatusCode.TheVariants.{Corruption};
 ghost use Rattle.leveldb_base.specs.declared.types.FileType.TheVariants.{Log};
-ghost use Rattle.leveldb_store.specs.Listing.{MatchesName, names_of};
-ghost use Rattle.leveldb_store.specs.OpeningSteps.{AddsLog, AreReplayedLogs, HasMisnamedLog, IsReplayed};
+ghost use Rattle.leveldb_store.specs.Openings.Listing.{MatchesName, names_of};
+ghost use Rattle.leveldb_store.specs.Openings.OpeningSteps.{AddsLog, AreReplayedLogs, HasMisnamedLog, IsReplayed};
 
 use super::listing::ListedFile;
 use leveldb_base::error::{Result, StatusCode, err};

@@ -1,7 +1,7 @@
 //! Reading the logs of a store that is read alone: all their entries come to one memtable.
 ghost use Rattle.std.specs.Prelude.{◌≡◌};
 ghost use Rattle.leveldb_base.specs.History.{AreUpTo};
-ghost use Rattle.leveldb_store.specs.ReadLogs.{ReadsLog, ReadsLogs};
+ghost use Rattle.leveldb_store.specs.Logs.ReadLogs.{ReadsLog, ReadsLogs};
 
 use super::replay_log::{ReplayedLog, check_empty_if_torn, check_follows};
 use crate::log_replay::{LogReplay, NextBatch};

@@ -1,7 +1,7 @@
 //! A store that is found or made, and recovered.
 // LevelDB: db/db_impl.cc, DBImpl::Recover
-ghost use Rattle.leveldb_version.specs.Format.{format_of};
-ghost use Rattle.leveldb_store.specs.OpeningSteps.{RecoversStore};
+ghost use Rattle.leveldb_files.specs.Stores.Format.{format_of};
+ghost use Rattle.leveldb_store.specs.Openings.OpeningSteps.{RecoversStore};
 
 use super::find::find_store;
 use super::recovered_set::{RecoveredSet, recover_set};

@@ -4,14 +4,14 @@ ghost use Rattle.std.specs.Prelude.{◌≡◌, ◌⊎◌, ◌<◌, ◌^◌, ◌�
 ghost use Rattle.leveldb_base.specs.Error.{IsOutOfMemory};
 ghost use Rattle.leveldb_base.specs.declared.error.StatusCode.TheVariants.{Corruption};
 ghost use Rattle.leveldb_env.specs.Env.{FilesUnchanged, Run, SameLocks};
-ghost use Rattle.leveldb_version.specs.VersionEdit.{new_file_of};
-ghost use Rattle.leveldb_version.specs.VersionSetValue.{AreFileNumbersUsedUp, new_version_set};
-ghost use Rattle.leveldb_version.specs.Format.{format_of};
-ghost use Rattle.leveldb_store.specs.Listing.{AreFilesIn, MatchesName, names_of};
-ghost use Rattle.leveldb_store.specs.OpenStore.{AreNumbersGiven};
-ghost use Rattle.leveldb_store.specs.OpeningSteps.{ChecksSet, HasNumber, LacksTable, MarksNames, ReadsSet, RecoversSet};
-ghost use Rattle.leveldb_store.specs.OpensStore.{AreTablesThere, IsBareFolder};
-ghost use Rattle.leveldb_store.specs.ReplayLog.{HasCauseOr};
+ghost use Rattle.leveldb_version.specs.Edits.VersionEdit.{new_file_of};
+ghost use Rattle.leveldb_version.specs.Sets.VersionSetValue.{AreFileNumbersUsedUp, new_version_set};
+ghost use Rattle.leveldb_files.specs.Stores.Format.{format_of};
+ghost use Rattle.leveldb_store.specs.Openings.Listing.{AreFilesIn, MatchesName, names_of};
+ghost use Rattle.leveldb_store.specs.Keeping.OpenStore.{AreNumbersGiven};
+ghost use Rattle.leveldb_store.specs.Openings.OpeningSteps.{ChecksSet, HasNumber, LacksTable, MarksNames, ReadsSet, RecoversSet};
+ghost use Rattle.leveldb_store.specs.Openings.OpensStore.{AreTablesThere, IsBareFolder};
+ghost use Rattle.leveldb_store.specs.Logs.ReplayLog.{HasCauseOr};
 
 use super::listing::{ListedFile, list_files};
 use super::logs::find_logs;

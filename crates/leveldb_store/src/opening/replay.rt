@@ -2,11 +2,11 @@
 //! on.
 // LevelDB: db/db_impl.cc, DBImpl::Recover
 ghost use Rattle.std.specs.Prelude.{◌≡◌, ◌≢◌, [], None, IfOk, IfSome, IsTrue, OnOk, map};
-ghost use Rattle.leveldb_version.specs.VersionEdit.{new_file_of};
-ghost use Rattle.leveldb_store.specs.BuildTable.{choices_of};
-ghost use Rattle.leveldb_version.specs.Format.{format_of};
-ghost use Rattle.leveldb_store.specs.OpeningSteps.{ReplaysLogs, ReplaysNext, TablesAll, UsesLastLog};
-ghost use Rattle.leveldb_store.specs.ReplayLog.{FailsToBuildRest, HasCauseOr, IsUnusable, MakesTablesOnly};
+ghost use Rattle.leveldb_version.specs.Edits.VersionEdit.{new_file_of};
+ghost use Rattle.leveldb_store.specs.Tables.BuildTable.{choices_of};
+ghost use Rattle.leveldb_files.specs.Stores.Format.{format_of};
+ghost use Rattle.leveldb_store.specs.Openings.OpeningSteps.{ReplaysLogs, ReplaysNext, TablesAll, UsesLastLog};
+ghost use Rattle.leveldb_store.specs.Logs.ReplayLog.{FailsToBuildRest, HasCauseOr, IsUnusable, MakesTablesOnly};
 
 use super::replay_log::{ReplayedLog, check_empty_if_torn, replay_log};
 use leveldb_base::cmp::{Cmp, InternalKeyCmp, UserCmp};

@@ -5,8 +5,8 @@ ghost use Rattle.std.specs.Prelude.{◌≡◌, ◌≢◌, ◌⊎◌, ◌<◌, []
 ghost use Rattle.leveldb_base.specs.History.{AreUpTo};
 ghost use Rattle.leveldb_base.specs.declared.error.StatusCode.TheVariants.{Corruption};
 ghost use Rattle.leveldb_mem.specs.MemTable.{FailsToPrepare, bytes_in};
-ghost use Rattle.leveldb_store.specs.BuildTable.{choices_of};
-ghost use Rattle.leveldb_store.specs.ReplayLog.{Follows, HasReplayedNone, MakesRestTable, ReplaysFile, TakesBatch, TakesNextBatch};
+ghost use Rattle.leveldb_store.specs.Tables.BuildTable.{choices_of};
+ghost use Rattle.leveldb_store.specs.Logs.ReplayLog.{Follows, HasReplayedNone, MakesRestTable, ReplaysFile, TakesBatch, TakesNextBatch};
 
 use crate::build::build_memtable;
 use crate::log_replay::{LogReplay, NextBatch};

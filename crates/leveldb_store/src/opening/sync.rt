@@ -2,7 +2,7 @@
 ghost use Rattle.std.specs.Prelude.{◌≡◌, IsTrue, OnOk};
 ghost use Rattle.leveldb_base.specs.Error.{IsOutOfMemory};
 ghost use Rattle.leveldb_env.specs.Env.{HasCause, Run, SameLocks};
-ghost use Rattle.leveldb_store.specs.OpeningSteps.{AreBeingKept, IsBeingKept, with_log_kept, with_logs_kept};
+ghost use Rattle.leveldb_store.specs.Openings.OpeningSteps.{AreBeingKept, IsBeingKept, with_log_kept, with_logs_kept};
 
 use leveldb_base::error::Result;
 use leveldb_base::names::log_file_name;

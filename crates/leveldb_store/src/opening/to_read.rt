@@ -3,12 +3,12 @@ ghost use Rattle.std.specs.Prelude.{◌≡◌, ◌≢◌, ◌<◌, ◌^◌, IfEr
 ghost use Rattle.leveldb_base.specs.Error.{IsOutOfMemory};
 ghost use Rattle.leveldb_base.specs.declared.error.StatusCode.TheVariants.{InvalidArgument};
 ghost use Rattle.leveldb_env.specs.Env.{FilesUnchanged, HasCause, Run, SameLocks};
-ghost use Rattle.leveldb_version.specs.Format.{format_of};
+ghost use Rattle.leveldb_files.specs.Stores.Format.{format_of};
 ghost use Rattle.leveldb_mem.specs.Log.{log_block_size};
 ghost use Rattle.leveldb_mem.specs.Log.Writer.{broken_writer, new_writer};
-ghost use Rattle.leveldb_version.specs.Paths.{current_path, log_path};
-ghost use Rattle.leveldb_store.specs.OpensToRead.{FailsToOpenToRead, OpensToRead};
-ghost use Rattle.leveldb_store.specs.ReplayLog.{HasCauseOr};
+ghost use Rattle.leveldb_files.specs.Stores.Paths.{current_path, log_path};
+ghost use Rattle.leveldb_store.specs.Openings.OpensToRead.{FailsToOpenToRead, OpensToRead};
+ghost use Rattle.leveldb_store.specs.Logs.ReplayLog.{HasCauseOr};
 
 use super::read_logs::read_logs;
 use super::recovered_set::read_set;

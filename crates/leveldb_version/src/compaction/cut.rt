@@ -4,10 +4,10 @@ ghost use Rattle.std.specs.Prelude.{◌≡◌, ◌+◌, map, take_while};
 ghost use Rattle.std.specs.List.{prefix_len};
 ghost use Rattle.std.specs.Ordering.{is_gt};
 ghost use Rattle.leveldb_base.specs.KeyTypes.{internal_cmp};
-ghost use Rattle.leveldb_version.specs.Cut.{PassesFiles, no_key, size_with};
-ghost use Rattle.leveldb_version.specs.Summary.{files_of_level};
-ghost use Rattle.leveldb_version.specs.Version.{new_files_of};
-ghost use Rattle.leveldb_version.specs.VersionEdit.{new_file_of};
+ghost use Rattle.leveldb_version.specs.Compactions.Cut.{PassesFiles, no_key, size_with};
+ghost use Rattle.leveldb_files.specs.Levels.Summary.{files_of_level};
+ghost use Rattle.leveldb_version.specs.Versions.Version.{new_files_of};
+ghost use Rattle.leveldb_version.specs.Edits.VersionEdit.{new_file_of};
 
 use super::Compaction;
 use crate::version::{product, total_size};
@@ -29,7 +29,7 @@ pub struct OutputCut {
 }
 
 impl Model for OutputCut {
-    ghost use Rattle.leveldb_version.specs.Cut.{CutValue};
+    ghost use Rattle.leveldb_version.specs.Compactions.Cut.{CutValue};
 
     ghost Value = { CutValue };
 

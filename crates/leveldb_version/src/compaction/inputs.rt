@@ -5,12 +5,12 @@ ghost use Rattle.std.specs.List.{list_any};
 ghost use Rattle.std.specs.Ordering.{is_lt};
 ghost use Rattle.leveldb_base.specs.Error.{IsOutOfMemory};
 ghost use Rattle.leveldb_base.specs.KeyTypes.{internal_cmp, user_part};
-ghost use Rattle.leveldb_version.specs.Compaction.{closed_range};
-ghost use Rattle.leveldb_version.specs.Contradictions.{begins_by, ends_from, is_among_inputs};
-ghost use Rattle.leveldb_version.specs.Inputs.{AreChosen, AreKeyEnds, MayTake};
-ghost use Rattle.leveldb_version.specs.Overlap.{AreInputs, named_range};
-ghost use Rattle.leveldb_version.specs.Version.{borrowed_files, new_files_of};
-ghost use Rattle.leveldb_version.specs.VersionEdit.{new_file_of};
+ghost use Rattle.leveldb_version.specs.Compactions.Compaction.{closed_range};
+ghost use Rattle.leveldb_version.specs.Compactions.Contradictions.{begins_by, ends_from, is_among_inputs};
+ghost use Rattle.leveldb_version.specs.Compactions.Inputs.{AreChosen, AreKeyEnds, MayTake};
+ghost use Rattle.leveldb_files.specs.Levels.Overlap.{AreInputs, named_range};
+ghost use Rattle.leveldb_version.specs.Versions.Version.{borrowed_files, new_files_of};
+ghost use Rattle.leveldb_version.specs.Edits.VersionEdit.{new_file_of};
 
 use crate::version::Version;
 use leveldb_base::cmp::{Cmp, UserCmp};

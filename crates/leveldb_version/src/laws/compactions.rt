@@ -2,19 +2,19 @@
 //! edits may be logged, and what they do about inputs that contradict their edits.
 ghost use Rattle.std.specs.Prelude.{ℕ, List};
 ghost use Rattle.leveldb_env.specs.Compressor.{Codings};
-ghost use Rattle.leveldb_version.specs.Choosing.{ChoicesGoBySets, ChosenMayBeCompacted, EditedFilesStayApart, FilesAreEdited, WidenedAreClosed};
-ghost use Rattle.leveldb_version.specs.CompactionEdit.{CompactionEditsFit, CompactionsAreLogged, EditsAreLogged, LiveTablesAreKnown, MadeOutputsCompact, MovesCompact};
-ghost use Rattle.leveldb_version.specs.CompactionLaws.{CompactedFilesStayApart, CompactionsKeepViews, CutsAreApart, CutsGrow, DropsGoBySets, FewerTablesFit, InputsAreTables, KeysAreCut, OneMergeIsLeft, OutputsLieWithin, RangesTellBaseLevel, ReplacedTablesExist, TestTellsBaseLevel, ThinnedTablesDropAll};
-ghost use Rattle.leveldb_version.specs.Contradictions.{AgreeOrContradict, AgreedFilesLieWithin, CutFilesAreApart, TablesAgreeWithEdits};
-ghost use Rattle.leveldb_version.specs.Replacing.{ReplacingRefines, SwapsReplace, SwitchesReplace};
-ghost use Rattle.leveldb_version.specs.Scores.{ScoresTellLevel};
-ghost use Rattle.leveldb_version.specs.ShownFrom.{CompactionsKeepShown, ShownIsKept};
-ghost use Rattle.leveldb_version.specs.WalksBeside.{WalksStayBeside};
+ghost use Rattle.leveldb_version.specs.Compactions.Choosing.{ChoicesGoBySets, ChosenMayBeCompacted, EditedFilesStayApart, FilesAreEdited, WidenedAreClosed};
+ghost use Rattle.leveldb_version.specs.Compactions.CompactionEdit.{CompactionEditsFit, CompactionsAreLogged, EditsAreLogged, LiveTablesAreKnown, MadeOutputsCompact, MovesCompact};
+ghost use Rattle.leveldb_version.specs.Compactions.CompactionLaws.{CompactedFilesStayApart, CompactionsKeepViews, CutsAreApart, CutsGrow, DropsGoBySets, FewerTablesFit, InputsAreTables, KeysAreCut, OneMergeIsLeft, OutputsLieWithin, RangesTellBaseLevel, ReplacedTablesExist, TestTellsBaseLevel, ThinnedTablesDropAll};
+ghost use Rattle.leveldb_version.specs.Compactions.Contradictions.{AgreeOrContradict, AgreedFilesLieWithin, CutFilesAreApart, TablesAgreeWithEdits};
+ghost use Rattle.leveldb_version.specs.Compactions.Replacing.{ReplacingRefines, SwapsReplace, SwitchesReplace};
+ghost use Rattle.leveldb_version.specs.Compactions.Scores.{ScoresTellLevel};
+ghost use Rattle.leveldb_version.specs.Compactions.ShownFrom.{CompactionsKeepShown, ShownIsKept};
+ghost use Rattle.leveldb_version.specs.Walks.WalksBeside.{WalksStayBeside};
 
-use crate::laws::stores::StoreFormat;
 use leveldb_base::cmp::{Cmp, InternalKeyCmp, UserCmp};
 use leveldb_env::env::Env;
 use leveldb_env::filter::FilterPolicy;
+use leveldb_files::laws::stores::StoreFormat;
 
 /// A compaction keeps the order of levels, and all entries show the same after it, from the
 /// smallest held number on. So does a table that is moved to the next level.

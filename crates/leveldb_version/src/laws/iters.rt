@@ -1,6 +1,6 @@
 //! The law of the walks over a version's tables.
 ghost use Rattle.leveldb_env.specs.Compressor.{Codings};
-ghost use Rattle.leveldb_version.specs.VersionIters.{OrdersInternalKeys, VersionItersAreLayers};
+ghost use Rattle.leveldb_version.specs.Walks.VersionIters.{OrdersInternalKeys, VersionItersAreLayers};
 
 use leveldb_base::cmp::{Cmp, InternalKeyCmp, UserCmp};
 use leveldb_env::env::Env;

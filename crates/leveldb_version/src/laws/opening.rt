@@ -1,9 +1,9 @@
 //! Laws of an opening: what each step of it makes of the files, and that each history is kept at
 //! every moment of it.
 ghost use Rattle.std.specs.Prelude.{ℕ, List};
-ghost use Rattle.leveldb_version.specs.OpeningLaws.{OpeningsEnd, OpeningsGoOn, RecoveredAfterGiving, RecoveredAfterNewLogs, RecoveredAfterNumbering, RecoveredAfterSyncs, RecoveredAfterUnread, RecoveredSetsTrack, SafeStoresKeepTables, StoresAreRecovered};
+ghost use Rattle.leveldb_version.specs.Engines.OpeningLaws.{OpeningsEnd, OpeningsGoOn, RecoveredAfterGiving, RecoveredAfterNewLogs, RecoveredAfterNumbering, RecoveredAfterSyncs, RecoveredAfterUnread, RecoveredSetsTrack, SafeStoresKeepTables, StoresAreRecovered};
 
-use super::stores::StoreFormat;
+use leveldb_files::laws::stores::StoreFormat;
 
 /// A set that was recovered tracks its store. Once the live tables are kept, which they are in a
 /// safe store, syncs of the logs that are replayed make the store recovered.

@@ -1,9 +1,9 @@
 //! Laws of a repair: what it leaves is a store with the set of its tables' entries, each history is
 //! kept while `CURRENT` is as it was, and the same is found meanwhile if no cut table is readable.
 ghost use Rattle.std.specs.Prelude.{ℕ, List};
-ghost use Rattle.leveldb_version.specs.Repairing.{CrashesLeaveFound, FiltersAreIgnored, FoundGoesByBytes, FoundShowsTheSame, FoundStays, ManifestsGoOn, ManifestsRepair, OneFoundLog, OneFoundSet, OneReadableTable, RepairedHolds, RepairedIsKept, RepairsHold, RepairsKeep, StoresAreFound, TablesAreReadable};
+ghost use Rattle.leveldb_version.specs.Repairs.Repairing.{CrashesLeaveFound, FiltersAreIgnored, FoundGoesByBytes, FoundShowsTheSame, FoundStays, ManifestsGoOn, ManifestsRepair, OneFoundLog, OneFoundSet, OneReadableTable, RepairedHolds, RepairedIsKept, RepairsHold, RepairsKeep, StoresAreFound, TablesAreReadable};
 
-use super::stores::StoreFormat;
+use leveldb_files::laws::stores::StoreFormat;
 
 /// All that is read of what a repair left is kept, and it holds the set of its tables' entries.
 pub fn repaired_stores_hold_a_set<F: StoreFormat>()

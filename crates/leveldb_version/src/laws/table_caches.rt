@@ -1,5 +1,5 @@
 //! Laws of a store's open tables.
-ghost use Rattle.leveldb_version.specs.TableCache.{StayMatched, TablesCloseInTurn};
+ghost use Rattle.leveldb_version.specs.Tables.TableCache.{StayMatched, TablesCloseInTurn};
 
 use leveldb_base::cmp::{Cmp, InternalKeyCmp, UserCmp};
 use leveldb_env::env::Env;

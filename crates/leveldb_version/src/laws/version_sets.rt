@@ -1,12 +1,12 @@
 //! Laws of version sets: what edits leave of one, and that logging them, recovering and making a
 //! new store's manifest keep what the disk holds.
 ghost use Rattle.std.specs.Prelude.{ℕ, List};
-ghost use Rattle.leveldb_version.specs.VersionSetLaws.{AppendedEditsAreTracked, AppendedEditsKeep, BegunEditsAreTracked, BegunEditsKeep, FullEditsStayFull, GoingOnIsTracked, NewStoresAreKept, SetsStayTracked, StartingAnewIsTracked};
+ghost use Rattle.leveldb_version.specs.Sets.VersionSetLaws.{AppendedEditsAreTracked, AppendedEditsKeep, BegunEditsAreTracked, BegunEditsKeep, FullEditsStayFull, GoingOnIsTracked, NewStoresAreKept, SetsStayTracked, StartingAnewIsTracked};
 
-use super::stores::StoreFormat;
+use leveldb_files::laws::stores::StoreFormat;
 
 /// One edit of all that there is, changed by another, is one of what that leaves.
-#[tactic(auto, using(crate::proofs::FullEditLemmas::full_stays_full))]
+#[tactic(auto, using(crate::proofs::Edits::FullEditLemmas::full_stays_full))]
 pub fn full_edits_stay_full()
     ensures { FullEditsStayFull }
 {}

@@ -1,9 +1,9 @@
 //! Laws of a store that an engine has open: what each step of the engine makes of the files, and
 //! that each history is kept at every moment of it.
 ghost use Rattle.std.specs.Prelude.{ℕ, List};
-ghost use Rattle.leveldb_version.specs.WritingLaws.{BatchesAreWritten, LiveNumbersAreBelow, NamesAreNumbered, NewLogsAreWritten, NewTablesAreUnread, NextNumbersAreFree, ObsoleteFilesAreUnread, SameMemoryShows, SyncedLogsAreDurable, NewTableIsShown, TrackedAfterGiving, TrackedAfterNewLogs, TrackedAfterSyncs, TrackedAfterUnread, ImmBecomesTableByEdits, ImmMayGoToLevelZero, WrittenAfterGiving, WrittenAfterSyncs, WrittenAfterUnread, WrittenIsShown};
+ghost use Rattle.leveldb_version.specs.Engines.WritingLaws.{BatchesAreWritten, LiveNumbersAreBelow, NamesAreNumbered, NewLogsAreWritten, NewTablesAreUnread, NextNumbersAreFree, ObsoleteFilesAreUnread, SameMemoryShows, SyncedLogsAreDurable, NewTableIsShown, TrackedAfterGiving, TrackedAfterNewLogs, TrackedAfterSyncs, TrackedAfterUnread, ImmBecomesTableByEdits, ImmMayGoToLevelZero, WrittenAfterGiving, WrittenAfterSyncs, WrittenAfterUnread, WrittenIsShown};
 
-use super::stores::StoreFormat;
+use leveldb_files::laws::stores::StoreFormat;
 
 /// No file has a number that wasn't given yet, and a file has the number of its name alone.
 pub fn new_numbers_are_free<F: StoreFormat>()

@@ -1,7 +1,7 @@
 //! Moves of a walk over a table that is found in a cache by its number.
 // LevelDB: db/table_cache.cc, TableCache::NewIterator
-ghost use Rattle.leveldb_version.specs.TableCache.{options_by};
-ghost use Rattle.leveldb_version.specs.TableMoves.{LeavesPairs, MovesInNumbered, StepsInOpen};
+ghost use Rattle.leveldb_version.specs.Tables.TableCache.{options_by};
+ghost use Rattle.leveldb_version.specs.Tables.TableMoves.{LeavesPairs, MovesInNumbered, StepsInOpen};
 
 use crate::table_cache::{TableCache, table_key};
 use leveldb_base::cmp::{Cmp, InternalKeyCmp, UserCmp};

@@ -3,10 +3,10 @@
 ghost use Rattle.std.specs.Prelude.{◌≡◌, IfErr, IfOk, OnOk, fold, map};
 ghost use Rattle.std.specs.List.{list_any};
 ghost use Rattle.leveldb_base.specs.Error.{IsOutOfMemory};
-ghost use Rattle.leveldb_version.specs.Change.{IsVersionAfter, VersionsFollowEdits, chosen_after, version_files_with, version_files_without};
-ghost use Rattle.leveldb_version.specs.Version.{FilesFit};
-ghost use Rattle.leveldb_version.specs.VersionEdit.{edit_of, new_file_of};
-ghost use Rattle.leveldb_version.specs.VersionSet.{is_same_file};
+ghost use Rattle.leveldb_version.specs.Versions.Change.{IsVersionAfter, VersionsFollowEdits, chosen_after, version_files_with, version_files_without};
+ghost use Rattle.leveldb_version.specs.Versions.Version.{FilesFit};
+ghost use Rattle.leveldb_version.specs.Edits.VersionEdit.{edit_of, new_file_of};
+ghost use Rattle.leveldb_files.specs.Edits.VersionSet.{is_same_file};
 
 use super::Version;
 use super::order::sort_files;

@@ -2,11 +2,11 @@
 // LevelDB: db/version_set.cc, Version::GetOverlappingInputs
 ghost use Rattle.std.specs.Prelude.{◌≡◌, ◌<◌, IfErr, IfOk};
 ghost use Rattle.leveldb_base.specs.Error.{IsOutOfMemory};
-ghost use Rattle.leveldb_version.specs.Compaction.{closed_range, is_base_level_for};
-ghost use Rattle.leveldb_version.specs.Overlap.{AreInputs, overlapping};
-ghost use Rattle.leveldb_version.specs.Search.{AreDisjointLevels};
-ghost use Rattle.leveldb_version.specs.Summary.{total_size};
-ghost use Rattle.leveldb_version.specs.Version.{at_level, borrowed_files, new_files_of};
+ghost use Rattle.leveldb_version.specs.Compactions.Compaction.{closed_range, is_base_level_for};
+ghost use Rattle.leveldb_files.specs.Levels.Overlap.{AreInputs, overlapping};
+ghost use Rattle.leveldb_version.specs.Versions.Search.{AreDisjointLevels};
+ghost use Rattle.leveldb_files.specs.Levels.Summary.{total_size};
+ghost use Rattle.leveldb_version.specs.Versions.Version.{at_level, borrowed_files, new_files_of};
 
 use super::Version;
 use super::key_range::KeyRange;

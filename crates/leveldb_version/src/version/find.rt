@@ -5,8 +5,8 @@ ghost use Rattle.std.specs.List.Sorted.{IsSortedByKey};
 ghost use Rattle.std.specs.Option.{option_copied, option_map};
 ghost use Rattle.std.specs.Ordering.{is_lt};
 ghost use Rattle.leveldb_base.specs.KeyTypes.{internal_cmp, user_part};
-ghost use Rattle.leveldb_version.specs.Overlap.{AreDisjointRanges, IsFileFor, PartsFiles, ends_before};
-ghost use Rattle.leveldb_version.specs.VersionEdit.{new_file_of};
+ghost use Rattle.leveldb_files.specs.Levels.Overlap.{AreDisjointRanges, IsFileFor, PartsFiles, ends_before};
+ghost use Rattle.leveldb_version.specs.Edits.VersionEdit.{new_file_of};
 
 use leveldb_base::cmp::{Cmp, UserCmp};
 use leveldb_base::key_types::{UserKey, split_sequence};

@@ -3,9 +3,9 @@
 ghost use Rattle.std.specs.Prelude.{◌≡◌, ◌<◌, ◌≤◌, IfErr, IfOk, IsSomeAnd, length};
 ghost use Rattle.leveldb_base.specs.Entries.{found_at};
 ghost use Rattle.leveldb_table.specs.BlockWalk.{pair_with};
-ghost use Rattle.leveldb_version.specs.Format.{format_of};
-ghost use Rattle.leveldb_version.specs.Search.{LooksUpNewest, SearchesTable};
-ghost use Rattle.leveldb_version.specs.TableCache.{table_options};
+ghost use Rattle.leveldb_files.specs.Stores.Format.{format_of};
+ghost use Rattle.leveldb_version.specs.Versions.Search.{LooksUpNewest, SearchesTable};
+ghost use Rattle.leveldb_version.specs.Tables.TableCache.{table_options};
 
 use super::search::FilesLeft;
 use super::{GetStats, Version};

@@ -3,8 +3,8 @@
 ghost use Rattle.std.specs.Prelude.{◌≡◌, IfErr, IfOk, OnOk};
 ghost use Rattle.std.specs.List.Sorted.{IsNonDecreasingBy};
 ghost use Rattle.leveldb_base.specs.Error.{IsOutOfMemory};
-ghost use Rattle.leveldb_version.specs.Version.{AreInVersionOrder, new_files_of};
-ghost use Rattle.leveldb_version.specs.VersionIters.{AreVersionIters, AreWalksOf, each_alone, levels_of_walks};
+ghost use Rattle.leveldb_version.specs.Versions.Version.{AreInVersionOrder, new_files_of};
+ghost use Rattle.leveldb_version.specs.Walks.VersionIters.{AreVersionIters, AreWalksOf, each_alone, levels_of_walks};
 
 use super::Version;
 use super::order::part_of_level;

@@ -2,9 +2,9 @@
 // LevelDB: db/version_set.cc, AfterFile and BeforeFile
 ghost use Rattle.std.specs.Prelude.{◌≡◌};
 ghost use Rattle.std.specs.Option.{option_copied};
-ghost use Rattle.leveldb_version.specs.Compaction.{closed_range};
-ghost use Rattle.leveldb_version.specs.Overlap.{is_above, is_below, named_end, named_range, overlaps, sticks_out, with_file};
-ghost use Rattle.leveldb_version.specs.VersionEdit.{new_file_of};
+ghost use Rattle.leveldb_version.specs.Compactions.Compaction.{closed_range};
+ghost use Rattle.leveldb_files.specs.Levels.Overlap.{is_above, is_below, named_end, named_range, overlaps, sticks_out, with_file};
+ghost use Rattle.leveldb_version.specs.Edits.VersionEdit.{new_file_of};
 
 use leveldb_base::cmp::Cmp;
 use leveldb_base::key_types::{UserKey, split_sequence};
@@ -19,7 +19,7 @@ pub(super) struct KeyRange<'a> {
 }
 
 impl<'a> Model for KeyRange<'a> {
-    ghost use Rattle.leveldb_version.specs.Overlap.{UserRange};
+    ghost use Rattle.leveldb_files.specs.Levels.Overlap.{UserRange};
 
     ghost Value = { UserRange };
 

@@ -3,9 +3,9 @@
 ghost use Rattle.std.specs.Prelude.{◌≡◌, IsPermutation, IfErr, OnOk, map};
 ghost use Rattle.std.specs.List.Sorted.{IsNonDecreasingBy};
 ghost use Rattle.leveldb_base.specs.Error.{IsOutOfMemory};
-ghost use Rattle.leveldb_version.specs.Summary.{total_size};
-ghost use Rattle.leveldb_version.specs.Version.{AreInVersionOrder, IsRangeOfLevel, at_level, version_order};
-ghost use Rattle.leveldb_version.specs.VersionEdit.{new_file_of};
+ghost use Rattle.leveldb_files.specs.Levels.Summary.{total_size};
+ghost use Rattle.leveldb_version.specs.Versions.Version.{AreInVersionOrder, IsRangeOfLevel, at_level, version_order};
+ghost use Rattle.leveldb_version.specs.Edits.VersionEdit.{new_file_of};
 
 use leveldb_base::cmp::{Cmp, UserCmp};
 use leveldb_base::error::Result;

@@ -4,10 +4,10 @@ ghost use Rattle.std.specs.Prelude.{◌≡◌, ◌&&◌, IfErr, IfOk, filter, fi
 ghost use Rattle.std.specs.List.{list_any};
 ghost use Rattle.std.specs.Option.{option_copied, option_map};
 ghost use Rattle.leveldb_base.specs.Error.{IsOutOfMemory};
-ghost use Rattle.leveldb_version.specs.Overlap.{IsWidened, overlaps, sticks_out};
-ghost use Rattle.leveldb_version.specs.Summary.{total_size};
-ghost use Rattle.leveldb_version.specs.Version.{borrowed_files};
-ghost use Rattle.leveldb_version.specs.VersionEdit.{new_file_of};
+ghost use Rattle.leveldb_files.specs.Levels.Overlap.{IsWidened, overlaps, sticks_out};
+ghost use Rattle.leveldb_files.specs.Levels.Summary.{total_size};
+ghost use Rattle.leveldb_version.specs.Versions.Version.{borrowed_files};
+ghost use Rattle.leveldb_version.specs.Edits.VersionEdit.{new_file_of};
 
 use super::key_range::KeyRange;
 use leveldb_base::cmp::{Cmp, UserCmp};

@@ -1,8 +1,8 @@
 //! The level whose score asks for a compaction.
 // LevelDB: db/version_set.cc, VersionSet::Finalize
 ghost use Rattle.std.specs.Prelude.{◌≡◌, ◌<◌, ◌*◌, if◌then◌else◌};
-ghost use Rattle.leveldb_version.specs.Scores.{fullest_level, is_fuller, level_by_score, level_limit, level_load};
-ghost use Rattle.leveldb_version.specs.Version.{new_files_of};
+ghost use Rattle.leveldb_version.specs.Compactions.Scores.{fullest_level, is_fuller, level_by_score, level_limit, level_load};
+ghost use Rattle.leveldb_version.specs.Versions.Version.{new_files_of};
 
 use super::Version;
 use leveldb_base::cmp::UserCmp;

@@ -3,10 +3,10 @@
 ghost use Rattle.std.specs.Prelude.{◌≡◌, ◌↔◌, ◌++◌, IsTrue, map};
 ghost use Rattle.std.specs.List.Sorted.{IsNonDecreasingBy};
 ghost use Rattle.std.specs.Option.{option_copied, option_map};
-ghost use Rattle.leveldb_version.specs.Levels.{IsInRange};
-ghost use Rattle.leveldb_version.specs.Search.{TakesNextFile, files_left};
-ghost use Rattle.leveldb_version.specs.Version.{AreInVersionOrder};
-ghost use Rattle.leveldb_version.specs.VersionEdit.{new_file_of};
+ghost use Rattle.leveldb_files.specs.Levels.Levels.{IsInRange};
+ghost use Rattle.leveldb_version.specs.Versions.Search.{TakesNextFile, files_left};
+ghost use Rattle.leveldb_version.specs.Versions.Version.{AreInVersionOrder};
+ghost use Rattle.leveldb_version.specs.Edits.VersionEdit.{new_file_of};
 
 use super::find::file_with_key;
 use super::order::part_of_level;
@@ -26,12 +26,12 @@ pub(super) struct FilesLeft<'a> {
 }
 
 impl<'a> Model for FilesLeft<'a> {
-    ghost use Rattle.leveldb_version.specs.Search.{FilesLeftValue};
+    ghost use Rattle.leveldb_version.specs.Versions.Search.{FilesLeftValue};
 
     ghost Value = { FilesLeftValue };
 
     ghost use Rattle.std.specs.Prelude.{map};
-    ghost use Rattle.leveldb_version.specs.VersionEdit.{new_file_of};
+    ghost use Rattle.leveldb_version.specs.Edits.VersionEdit.{new_file_of};
 
     ghost view = { λ it. record {
       newest = map new_file_of it.newest.now;

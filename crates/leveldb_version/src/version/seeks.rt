@@ -5,9 +5,9 @@ ghost use Rattle.std.specs.List.{list_any};
 ghost use Rattle.std.specs.List.Sorted.{IsNonDecreasingBy};
 ghost use Rattle.leveldb_base.specs.Error.{IsOutOfMemory};
 ghost use Rattle.leveldb_base.specs.KeyTypes.{user_part};
-ghost use Rattle.leveldb_version.specs.Sampling.{ChargesForSample, SamplesRead};
-ghost use Rattle.leveldb_version.specs.Search.{AreDisjointLevels};
-ghost use Rattle.leveldb_version.specs.Version.{after_seek, has_last_seek, is_named, new_files_of, with_first_seeks};
+ghost use Rattle.leveldb_version.specs.Versions.Sampling.{ChargesForSample, SamplesRead};
+ghost use Rattle.leveldb_version.specs.Versions.Search.{AreDisjointLevels};
+ghost use Rattle.leveldb_version.specs.Versions.Version.{after_seek, has_last_seek, is_named, new_files_of, with_first_seeks};
 
 use super::order::{part_of_level, range_of_level};
 use super::search::FilesLeft;

@@ -5,8 +5,9 @@ ghost use Rattle.std.specs.List.Sorted.{IsStrictlySortedBy};
 ghost use Rattle.std.specs.Option.{option_map, option_to_list};
 ghost use Rattle.leveldb_base.specs.Error.{IsOutOfMemory};
 ghost use Rattle.leveldb_base.specs.Varint.{varint};
-ghost use Rattle.leveldb_version.specs.VersionEdit.{comparator_is, points, deletes, adds, FieldFits, field_bytes, bytes_of_each, file_order, pointer_of, new_file_of};
-ghost use Rattle.leveldb_version.specs.Fields.{ReadsFront, with_rest, field_with_rest};
+ghost use Rattle.leveldb_files.specs.Edits.Edit.{comparator_is, points, deletes, adds, FieldFits, field_bytes, bytes_of_each, file_order};
+ghost use Rattle.leveldb_version.specs.Edits.VersionEdit.{pointer_of, new_file_of};
+ghost use Rattle.leveldb_version.specs.Edits.Fields.{ReadsFront, with_rest, field_with_rest};
 
 use crate::version_edit::CompactionPointer;
 use leveldb_base::error::Result;

@@ -3,10 +3,10 @@
 ghost use Rattle.std.specs.Prelude.{◌≡◌, ◌<◌, IfErr, IfOk};
 ghost use Rattle.leveldb_base.specs.Error.{IsOutOfMemory};
 ghost use Rattle.leveldb_base.specs.KeyTypes.{user_part};
-ghost use Rattle.leveldb_version.specs.CurrentVersion.{IsCurrent};
-ghost use Rattle.leveldb_version.specs.InputMerge.{MergesTablesOf};
-ghost use Rattle.leveldb_version.specs.Overlap.{named_range};
-ghost use Rattle.leveldb_version.specs.Picking.{IsAskedByReads, IsAskedFor, IsOfRange, needs_compaction};
+ghost use Rattle.leveldb_version.specs.Sets.CurrentVersion.{IsCurrent};
+ghost use Rattle.leveldb_version.specs.Compactions.InputMerge.{MergesTablesOf};
+ghost use Rattle.leveldb_files.specs.Levels.Overlap.{named_range};
+ghost use Rattle.leveldb_version.specs.Compactions.Picking.{IsAskedByReads, IsAskedFor, IsOfRange, needs_compaction};
 
 use super::live_files::LiveFiles;
 use super::set::VersionSet;

@@ -3,7 +3,7 @@
 ghost use Rattle.std.specs.Prelude.{◌≡◌, ℕ, List, MatchOption, IfOk, IfErr, string_bytes};
 ghost use Rattle.leveldb_base.specs.Error.{IsOutOfMemory};
 ghost use Rattle.leveldb_base.specs.Names.{IsFileName};
-ghost use Rattle.leveldb_version.specs.Current.{IsCurrentText, current_text as text_of_current};
+ghost use Rattle.leveldb_files.specs.Edits.Current.{IsCurrentText, current_text as text_of_current};
 
 use leveldb_base::error::{Result, StatusCode, err};
 use leveldb_base::names::file_name_parts;

@@ -4,9 +4,9 @@ ghost use Rattle.std.specs.Prelude.{◌≡◌, ◌⊎◌, IfOk, IfErr, IsSomeAnd
 ghost use Rattle.leveldb_base.specs.Error.{IsOutOfMemory};
 ghost use Rattle.leveldb_env.specs.Env.{bytes_of, AppendedAreBytes, ChangesFiles, FilesUnchanged, HasCause, Run, SameLocks};
 ghost use Rattle.leveldb_env.specs.WholeFiles.{IsLostUnobserved};
-ghost use Rattle.leveldb_version.specs.Current.{IsCurrentText};
-ghost use Rattle.leveldb_version.specs.CurrentFile.{IsCurrentUnread, IsNoCurrentText, SettingCurrent, temp_path, with_current};
-ghost use Rattle.leveldb_version.specs.Paths.{current_path};
+ghost use Rattle.leveldb_files.specs.Edits.Current.{IsCurrentText};
+ghost use Rattle.leveldb_version.specs.Sets.CurrentFile.{IsCurrentUnread, IsNoCurrentText, SettingCurrent, temp_path, with_current};
+ghost use Rattle.leveldb_files.specs.Stores.Paths.{current_path};
 
 use super::current::{current_text, parse_current_text};
 use leveldb_base::error::Result;

@@ -3,9 +3,10 @@
 ghost use Rattle.std.specs.BTreeMap.{get};
 ghost use Rattle.std.specs.Prelude.{◌≡◌, [], IfErr, IfOk, None, OnOk, fold, map};
 ghost use Rattle.leveldb_base.specs.Error.{IsOutOfMemory};
-ghost use Rattle.leveldb_version.specs.FilesInOrder.{ArePlaced, ordered_files};
-ghost use Rattle.leveldb_version.specs.FullEdit.{files_with, files_without};
-ghost use Rattle.leveldb_version.specs.VersionEdit.{file_order, new_file_of};
+ghost use Rattle.leveldb_version.specs.Edits.FilesInOrder.{ArePlaced, ordered_files};
+ghost use Rattle.leveldb_version.specs.Edits.FullEdit.{files_with, files_without};
+ghost use Rattle.leveldb_files.specs.Edits.Edit.{file_order};
+ghost use Rattle.leveldb_version.specs.Edits.VersionEdit.{new_file_of};
 
 use leveldb_base::error::{Result, Status};
 use leveldb_base::types::{FileMetaData, FileNum};

@@ -2,8 +2,8 @@
 // LevelDB: db/version_set.cc, VersionSet::WriteSnapshot
 ghost use Rattle.std.specs.Prelude.{◌≡◌, ◌≤◌, ◌+◌, fold, map, vec_len, vec_capacity, OnOk, IfErr};
 ghost use Rattle.leveldb_base.specs.Error.{IsOutOfMemory};
-ghost use Rattle.leveldb_version.specs.VersionEdit.{edit_of, new_file_of, pointer_of};
-ghost use Rattle.leveldb_version.specs.FullEdit.{files_without, files_with, pointers_with, full_after, HasRoomForEdit};
+ghost use Rattle.leveldb_version.specs.Edits.VersionEdit.{edit_of, new_file_of, pointer_of};
+ghost use Rattle.leveldb_version.specs.Edits.FullEdit.{files_without, files_with, pointers_with, full_after, HasRoomForEdit};
 
 use crate::version_edit::{CompactionPointer, VersionEdit};
 use leveldb_base::error::Result;

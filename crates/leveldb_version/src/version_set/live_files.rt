@@ -3,9 +3,9 @@
 // LevelDB: db/version_set.cc, VersionSet
 ghost use Rattle.std.specs.Prelude.{◌≡◌, ◌≢◌, ◌↔◌, ◌+◌, ◌<◌, ◌^◌, Some, None, map, OnOk, OnErr, IfOk, IfErr, IsTrue, string_bytes};
 ghost use Rattle.leveldb_base.specs.Error.{IsOutOfMemory};
-ghost use Rattle.leveldb_version.specs.Summary.{summary_text};
-ghost use Rattle.leveldb_version.specs.VersionEdit.{new_file_of};
-ghost use Rattle.leveldb_version.specs.VersionSetValue.{new_version_set, with_number_given, with_number_free, with_numbers_used, AreFileNumbersUsedUp, broken, numbers_in_order};
+ghost use Rattle.leveldb_files.specs.Levels.Summary.{summary_text};
+ghost use Rattle.leveldb_version.specs.Edits.VersionEdit.{new_file_of};
+ghost use Rattle.leveldb_version.specs.Sets.VersionSetValue.{new_version_set, with_number_given, with_number_free, with_numbers_used, AreFileNumbersUsedUp, broken, numbers_in_order};
 
 use super::summary::summary_of;
 use crate::version_edit::VersionEdit;
@@ -45,12 +45,12 @@ pub struct LiveFiles<E: Env> {
 }
 
 impl<E: Env> Model for LiveFiles<E> {
-    ghost use Rattle.leveldb_version.specs.VersionSetValue.{VersionSetValue, manifest_state};
+    ghost use Rattle.leveldb_version.specs.Sets.VersionSetValue.{VersionSetValue, manifest_state};
 
     ghost Value = { VersionSetValue };
 
     ghost use Rattle.std.specs.Prelude.{string_bytes};
-    ghost use Rattle.leveldb_version.specs.VersionEdit.{edit_of};
+    ghost use Rattle.leveldb_version.specs.Edits.VersionEdit.{edit_of};
 
     ghost view = { λ set. record {
       store = string_bytes set.store;

@@ -5,9 +5,10 @@ ghost use Rattle.leveldb_base.specs.Error.{IsOutOfMemory};
 ghost use Rattle.leveldb_env.specs.Env.{AreBytes, ChangesFiles, HasCause, SameLocks};
 ghost use Rattle.leveldb_env.specs.WholeFiles.{IsLost};
 ghost use Rattle.leveldb_mem.specs.Log.Writer.{after_frame, frame};
-ghost use Rattle.leveldb_version.specs.LogEdit.{AppendingAndSyncing, AppendsEdit, BeginsManifest, LogEditResult, WritesBytes, with_bytes_kept, written_edit};
-ghost use Rattle.leveldb_version.specs.VersionEdit.{Edit, LevelsFit, edit_bytes, edit_of};
-ghost use Rattle.leveldb_version.specs.VersionSetValue.{OpenManifest, broken, in_use, unmade};
+ghost use Rattle.leveldb_version.specs.Sets.LogEdit.{AppendingAndSyncing, AppendsEdit, BeginsManifest, LogEditResult, WritesBytes, with_bytes_kept, written_edit};
+ghost use Rattle.leveldb_files.specs.Edits.Edit.{Edit, LevelsFit, edit_bytes};
+ghost use Rattle.leveldb_version.specs.Edits.VersionEdit.{edit_of};
+ghost use Rattle.leveldb_version.specs.Sets.VersionSetValue.{OpenManifest, broken, in_use, unmade};
 
 use super::full_edit::{apply_reserved, reserve};
 use super::live_files::LiveFiles;

@@ -6,9 +6,9 @@ ghost use Rattle.leveldb_env.specs.Env.{AppendedAreBytes, ChangesFiles, HasCause
 ghost use Rattle.leveldb_env.specs.WholeFiles.{IsLostUnobserved};
 ghost use Rattle.leveldb_mem.specs.Log.{log_block_size};
 ghost use Rattle.leveldb_mem.specs.Log.Writer.{after_frame, new_writer};
-ghost use Rattle.leveldb_version.specs.CurrentFile.{temp_path};
-ghost use Rattle.leveldb_version.specs.NewManifest.{MakingManifest, manifest_bytes, with_manifest};
-ghost use Rattle.leveldb_version.specs.Paths.{manifest_path};
+ghost use Rattle.leveldb_version.specs.Sets.CurrentFile.{temp_path};
+ghost use Rattle.leveldb_version.specs.Sets.NewManifest.{MakingManifest, manifest_bytes, with_manifest};
+ghost use Rattle.leveldb_files.specs.Stores.Paths.{manifest_path};
 
 use super::current_file::set_current_file;
 use leveldb_base::error::Result;

@@ -2,8 +2,8 @@
 // LevelDB: db/db_impl.cc, DBImpl::NewDB
 ghost use Rattle.std.specs.Prelude.{◌≡◌, IfOk, IfErr};
 ghost use Rattle.leveldb_base.specs.Error.{IsOutOfMemory};
-ghost use Rattle.leveldb_version.specs.NewStore.{MakeStoreResult, MakesManifest, first_edit};
-ghost use Rattle.leveldb_version.specs.VersionEdit.{edit_of};
+ghost use Rattle.leveldb_version.specs.Sets.NewStore.{MakeStoreResult, MakesManifest, first_edit};
+ghost use Rattle.leveldb_version.specs.Edits.VersionEdit.{edit_of};
 
 use super::new_manifest::{frame_records, make_manifest};
 use crate::version_edit::VersionEdit;

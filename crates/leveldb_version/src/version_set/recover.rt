@@ -1,13 +1,13 @@
 //! Recovering a version set from the manifest that `CURRENT` names.
 // LevelDB: db/version_set.cc, VersionSet::Recover
 ghost use Rattle.std.specs.Prelude.{◌≡◌, ◌<◌, ◌+◌, ◌^◌, ◌↔◌, if◌then◌else◌, is_some, IfOk, IfSome, IsSome, IsTrue, OnOk, string_bytes};
-ghost use Rattle.leveldb_version.specs.CurrentFile.{IsCurrentUnread};
-ghost use Rattle.leveldb_version.specs.VersionEdit.{edit_of};
+ghost use Rattle.leveldb_version.specs.Sets.CurrentFile.{IsCurrentUnread};
+ghost use Rattle.leveldb_version.specs.Edits.VersionEdit.{edit_of};
 ghost use Rattle.leveldb_base.specs.Error.{IsOutOfMemory};
 ghost use Rattle.leveldb_env.specs.Env.{BeforeOrAfter, ChangesFiles, FilesUnchanged, HasCause, Run, SameLocks, synced};
 ghost use Rattle.leveldb_mem.specs.Log.{bad, clean};
-ghost use Rattle.leveldb_version.specs.Recover.{ReadSetResult, RecoverResult, WhyUnrecovered};
-ghost use Rattle.leveldb_version.specs.RecoverSteps.{AppliesPlan, IsFileUnread, IsManifestAt, IsRecoveryPlan, IsSizedReplay, set_installed};
+ghost use Rattle.leveldb_version.specs.Sets.Recover.{ReadSetResult, RecoverResult, WhyUnrecovered};
+ghost use Rattle.leveldb_version.specs.Sets.RecoverSteps.{AppliesPlan, IsFileUnread, IsManifestAt, IsRecoveryPlan, IsSizedReplay, set_installed};
 
 use super::current_file::read_current_file;
 use super::live_files::LiveFiles;

@@ -7,8 +7,8 @@ ghost use Rattle.leveldb_base.specs.declared.error.StatusCode.TheVariants.{NotSu
 ghost use Rattle.leveldb_env.specs.Env.{ChangesFiles, FilesUnchanged, SameLocks, same};
 ghost use Rattle.leveldb_env.specs.EnvFile.{opened};
 ghost use Rattle.leveldb_mem.specs.Log.{bad, clean};
-ghost use Rattle.leveldb_version.specs.FilesInOrder.{ArePlaced, ordered_files};
-ghost use Rattle.leveldb_version.specs.Replay.{AreReplayedTo, EncodesNoEdit, HasReplayCause, IsReplayOfFile, ReplaysFileRest, ReplaysRest, ReplaysRestTo, StopsFileReplay, StopsReplay, TakesEdit, with_files};
+ghost use Rattle.leveldb_version.specs.Edits.FilesInOrder.{ArePlaced, ordered_files};
+ghost use Rattle.leveldb_version.specs.Sets.Replay.{AreReplayedTo, EncodesNoEdit, HasReplayCause, IsReplayOfFile, ReplaysFileRest, ReplaysRest, ReplaysRestTo, StopsFileReplay, StopsReplay, TakesEdit, with_files};
 
 use super::files_in_order::FilesInOrder;
 use super::full_edit::add_pointers;

@@ -3,14 +3,14 @@
 ghost use Rattle.std.specs.Prelude.{◌≡◌, ◌≢◌, ◌↔◌, ◌+◌, ◌<◌, ◌^◌, Some, map, OnOk, OnErr, IfOk, IfErr, IsTrue, string_bytes};
 ghost use Rattle.leveldb_base.specs.Error.{IsOutOfMemory};
 ghost use Rattle.leveldb_env.specs.Env.{SameLocks};
-ghost use Rattle.leveldb_version.specs.Change.{IsVersionAfter};
-ghost use Rattle.leveldb_version.specs.CurrentVersion.{IsCurrent, new_versions};
-ghost use Rattle.leveldb_version.specs.LogEdit.{LogEditResult, WritesBytes};
-ghost use Rattle.leveldb_version.specs.Recover.{RecoverResult};
-ghost use Rattle.leveldb_version.specs.Summary.{summary_text};
-ghost use Rattle.leveldb_version.specs.Version.{charged};
-ghost use Rattle.leveldb_version.specs.VersionEdit.{edit_of, new_file_of};
-ghost use Rattle.leveldb_version.specs.VersionSetValue.{OpenManifest, with_number_given, with_number_free, with_numbers_used, AreFileNumbersUsedUp, broken, in_use, numbers_in_order};
+ghost use Rattle.leveldb_version.specs.Versions.Change.{IsVersionAfter};
+ghost use Rattle.leveldb_version.specs.Sets.CurrentVersion.{IsCurrent, new_versions};
+ghost use Rattle.leveldb_version.specs.Sets.LogEdit.{LogEditResult, WritesBytes};
+ghost use Rattle.leveldb_version.specs.Sets.Recover.{RecoverResult};
+ghost use Rattle.leveldb_files.specs.Levels.Summary.{summary_text};
+ghost use Rattle.leveldb_version.specs.Versions.Version.{charged};
+ghost use Rattle.leveldb_version.specs.Edits.VersionEdit.{edit_of, new_file_of};
+ghost use Rattle.leveldb_version.specs.Sets.VersionSetValue.{OpenManifest, with_number_given, with_number_free, with_numbers_used, AreFileNumbersUsedUp, broken, in_use, numbers_in_order};
 
 use super::live_files::LiveFiles;
 use super::log_edit::levels_fit;
@@ -34,7 +34,7 @@ pub struct VersionSet<E: Env, C: Cmp> {
 }
 
 impl<E: Env, C: Cmp> Model for VersionSet<E, C> {
-    ghost use Rattle.leveldb_version.specs.CurrentVersion.{IsCurrent, VersionsValue};
+    ghost use Rattle.leveldb_version.specs.Sets.CurrentVersion.{IsCurrent, VersionsValue};
 
     ghost Value = { VersionsValue C };
 

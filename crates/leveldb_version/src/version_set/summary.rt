@@ -2,15 +2,15 @@
 // LevelDB: db/version_set.cc, VersionSet::LevelSummary
 ghost use Rattle.std.specs.Prelude.{◌≡◌, ◌++◌, [], length, map, string_bytes, IfOk, OnOk, IfErr};
 ghost use Rattle.leveldb_base.specs.Error.{IsOutOfMemory};
-ghost use Rattle.leveldb_version.specs.VersionEdit.{new_file_of};
-ghost use Rattle.leveldb_version.specs.Summary.{file_text, files_of_level, files_text, level_text, summary_text, total_size};
+ghost use Rattle.leveldb_version.specs.Edits.VersionEdit.{new_file_of};
+ghost use Rattle.leveldb_files.specs.Levels.Summary.{file_text, files_of_level, files_text, level_text, summary_text, total_size};
 
 use leveldb_base::error::Result;
 use leveldb_base::types::{FileMetaData, NUM_LEVELS};
 use std::alloc::Global;
 
 /// The text of all levels that have files.
-#[tactic(auto, using(crate::proofs::SummaryLemmas::levels_more))]
+#[tactic(auto, using(leveldb_files::proofs::Levels::SummaryLemmas::levels_more))]
 pub(crate) fn summary_of(alloc: Global, files: &[(usize, FileMetaData)]) -> Result<String>
     ensures ok { IfOk result (λ text.
         string_bytes text ≡ summary_text (map new_file_of files.now)) }

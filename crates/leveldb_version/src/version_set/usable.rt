@@ -4,11 +4,12 @@ ghost use Rattle.std.specs.Prelude.{◌≡◌, ◌≢◌, ◌≤◌, ◌<◌, �
 ghost use Rattle.std.specs.Option.{option_map};
 ghost use Rattle.std.specs.declared.cmp.Ordering.TheVariants.{Less};
 ghost use Rattle.leveldb_base.specs.KeyTypes.{internal_cmp, user_part};
-ghost use Rattle.leveldb_version.specs.Levels.{AreDisjoint};
-ghost use Rattle.leveldb_version.specs.Recover.{IsUsable, WhyUnusable};
-ghost use Rattle.leveldb_version.specs.Replay.{IsReplayOf};
-ghost use Rattle.leveldb_version.specs.Usable.{AreAllApart, ArePeers, ClashesWith, HasClash, HasStartNumbers, IsApartFrom, IsClash, IsOtherComparator, LacksStartNumber, next_number_of};
-ghost use Rattle.leveldb_version.specs.VersionEdit.{Edit, new_file_of};
+ghost use Rattle.leveldb_files.specs.Levels.Levels.{AreDisjoint};
+ghost use Rattle.leveldb_version.specs.Sets.Recover.{IsUsable, WhyUnusable};
+ghost use Rattle.leveldb_version.specs.Sets.Replay.{IsReplayOf};
+ghost use Rattle.leveldb_version.specs.Sets.Usable.{AreAllApart, ArePeers, ClashesWith, HasClash, HasStartNumbers, IsApartFrom, IsClash, IsOtherComparator, LacksStartNumber, next_number_of};
+ghost use Rattle.leveldb_files.specs.Edits.Edit.{Edit};
+ghost use Rattle.leveldb_version.specs.Edits.VersionEdit.{new_file_of};
 
 use super::check_key_ranges;
 use super::replay::Replayed;

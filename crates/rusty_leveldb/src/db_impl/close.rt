@@ -2,9 +2,9 @@
 // LevelDB: db/db_impl.cc, the destructor of DBImpl
 ghost use Rattle.std.specs.Prelude.{false};
 ghost use Rattle.leveldb_env.specs.Env.{lock_set, same, ChangesFiles, FilesUnchanged, ChangesLocks, HasCause};
-ghost use Rattle.leveldb_store.specs.BuildTable.{choices_of};
-ghost use Rattle.leveldb_version.specs.Format.{format_of};
-ghost use Rattle.rusty_leveldb.specs.Calls.{EngineAbandons, EngineCloses};
+ghost use Rattle.leveldb_store.specs.Tables.BuildTable.{choices_of};
+ghost use Rattle.leveldb_files.specs.Stores.Format.{format_of};
+ghost use Rattle.rusty_leveldb.specs.Engines.Calls.{EngineAbandons, EngineCloses};
 
 use super::engine::{Engine, Mode};
 use leveldb_base::cmp::{Cmp, InternalKeyCmp, UserCmp};

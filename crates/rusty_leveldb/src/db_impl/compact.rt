@@ -1,10 +1,10 @@
 //! Compacting a range of keys.
 // LevelDB: db/db_impl.cc, DBImpl::CompactRange
 ghost use Rattle.std.specs.Prelude.{◌≡◌, is_some};
-ghost use Rattle.leveldb_store.specs.BuildTable.{choices_of};
-ghost use Rattle.rusty_leveldb.specs.Calls.{EngineCompacts};
-ghost use Rattle.rusty_leveldb.specs.Compact.{EngineCompactsStore};
-ghost use Rattle.rusty_leveldb.specs.State.{open_mode};
+ghost use Rattle.leveldb_store.specs.Tables.BuildTable.{choices_of};
+ghost use Rattle.rusty_leveldb.specs.Engines.Calls.{EngineCompacts};
+ghost use Rattle.rusty_leveldb.specs.Compactions.Compact.{EngineCompactsStore};
+ghost use Rattle.rusty_leveldb.specs.Machines.State.{open_mode};
 
 use super::engine::{Engine, mode_by};
 use leveldb_base::cmp::{Cmp, InternalKeyCmp, UserCmp};

@@ -2,12 +2,12 @@
 // LevelDB: db/db_impl.h, DBImpl
 ghost use Rattle.std.specs.Prelude.{◌≡◌, Bool, List, OnOk, IfErr};
 ghost use Rattle.leveldb_base.specs.History.{Item};
-ghost use Rattle.rusty_leveldb.specs.State.{open_mode, write, refused};
-ghost use Rattle.rusty_leveldb.specs.Serves.{refusal_of};
-ghost use Rattle.rusty_leveldb.specs.Engine.{IsClosed, RefusedAsClosed, RefusedByMode, AnswersStill};
-ghost use Rattle.rusty_leveldb.specs.EngineValue.{FollowsStore, mode_of};
-ghost use Rattle.leveldb_store.specs.OpenStore.{IsUnbroken};
-ghost use Rattle.leveldb_version.specs.Format.{format_of};
+ghost use Rattle.rusty_leveldb.specs.Machines.State.{open_mode, write, refused};
+ghost use Rattle.rusty_leveldb.specs.Engines.Serves.{refusal_of};
+ghost use Rattle.rusty_leveldb.specs.Engines.Engine.{IsClosed, RefusedAsClosed, RefusedByMode, AnswersStill};
+ghost use Rattle.rusty_leveldb.specs.Engines.EngineValue.{FollowsStore, mode_of};
+ghost use Rattle.leveldb_store.specs.Keeping.OpenStore.{IsUnbroken};
+ghost use Rattle.leveldb_files.specs.Stores.Format.{format_of};
 
 use crate::read_samples::ReadSamples;
 use leveldb_base::cmp::{Cmp, InternalKeyCmp, UserCmp};
@@ -79,7 +79,7 @@ impl<E: Env, C: Cmp + Drop, FP: Drop, O: Drop, T: Drop> Drop for Engine<E, C, FP
 
 impl<E: Env, C: Cmp, FP, O, T> Model for Engine<E, C, FP, O, T> {
     ghost use Rattle.std.specs.Prelude.{string_bytes};
-    ghost use Rattle.rusty_leveldb.specs.EngineValue.{EngineValue, IsUnbrokenIfOpen, mode_of};
+    ghost use Rattle.rusty_leveldb.specs.Engines.EngineValue.{EngineValue, IsUnbrokenIfOpen, mode_of};
 
     ghost Value = { EngineValue C O T };
 

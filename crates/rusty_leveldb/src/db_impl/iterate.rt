@@ -3,8 +3,8 @@
 ghost use Rattle.std.specs.Prelude.{◌≡◌, None, Some, IfErr, IfOk};
 ghost use Rattle.std.specs.Option.{option_map};
 ghost use Rattle.leveldb_base.specs.Error.{IsOutOfMemory};
-ghost use Rattle.rusty_leveldb.specs.Iterator.{EngineIterates, IsMadeOver};
-ghost use Rattle.rusty_leveldb.specs.Serves.{snapshot_of};
+ghost use Rattle.rusty_leveldb.specs.Walks.Iterator.{EngineIterates, IsMadeOver};
+ghost use Rattle.rusty_leveldb.specs.Engines.Serves.{snapshot_of};
 
 use super::engine::Engine;
 use crate::db_iter::{DBIterator, StoreIterator, StoreTables};

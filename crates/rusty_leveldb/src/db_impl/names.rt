@@ -1,7 +1,7 @@
 //! The name of a store.
 // LevelDB: db/filename.cc, LockFileName
 ghost use Rattle.std.specs.Prelude.{◌≡◌, OnOk, IfErr};
-ghost use Rattle.rusty_leveldb.specs.Engine.{IsStoreName};
+ghost use Rattle.rusty_leveldb.specs.Engines.Engine.{IsStoreName};
 
 use leveldb_base::error::{Result, StatusCode, err};
 use std::alloc::Global;

@@ -1,8 +1,8 @@
 //! Opening a store: its lock is taken, and its files are read.
 // LevelDB: db/db_impl.cc, DB::Open
-ghost use Rattle.rusty_leveldb.specs.Engine.{opening_of};
-ghost use Rattle.leveldb_store.specs.BuildTable.{choices_of};
-ghost use Rattle.rusty_leveldb.specs.Calls.{EngineOpens};
+ghost use Rattle.rusty_leveldb.specs.Engines.Engine.{opening_of};
+ghost use Rattle.leveldb_store.specs.Tables.BuildTable.{choices_of};
+ghost use Rattle.rusty_leveldb.specs.Engines.Calls.{EngineOpens};
 
 use super::close::give_back;
 use super::engine::{Engine, Mode};

@@ -3,9 +3,9 @@
 ghost use Rattle.std.specs.Prelude.{◌≡◌, None, Some, OnOk, IfErr};
 ghost use Rattle.leveldb_base.specs.KeyTypes.{IsLongKey};
 ghost use Rattle.leveldb_base.specs.declared.error.StatusCode.TheVariants.{InvalidArgument};
-ghost use Rattle.rusty_leveldb.specs.Serves.{snapshot_of};
-ghost use Rattle.leveldb_store.specs.BuildTable.{choices_of};
-ghost use Rattle.rusty_leveldb.specs.Calls.{EngineGets};
+ghost use Rattle.rusty_leveldb.specs.Engines.Serves.{snapshot_of};
+ghost use Rattle.leveldb_store.specs.Tables.BuildTable.{choices_of};
+ghost use Rattle.rusty_leveldb.specs.Engines.Calls.{EngineGets};
 
 use super::engine::Engine;
 use bytes::Bytes;

@@ -1,8 +1,8 @@
 //! An engine that only reads: it opens a store without a lock, and changes no file of it.
 ghost use Rattle.std.specs.Prelude.{◌≡◌, ◌++◌, List, IfOk};
-ghost use Rattle.leveldb_version.specs.Format.{format_of};
-ghost use Rattle.rusty_leveldb.specs.Engine.{opening_of};
-ghost use Rattle.rusty_leveldb.specs.ReadAlone.{ReaderGets, ReaderIterates, ReaderOpens, ReaderWalks};
+ghost use Rattle.leveldb_files.specs.Stores.Format.{format_of};
+ghost use Rattle.rusty_leveldb.specs.Engines.Engine.{opening_of};
+ghost use Rattle.rusty_leveldb.specs.Openings.ReadAlone.{ReaderGets, ReaderIterates, ReaderOpens, ReaderWalks};
 
 use super::iterate::iter_over;
 use super::names::check_name;
@@ -58,7 +58,7 @@ impl<E: Env, C: Cmp + Drop, FP: Drop, O: Drop, T: Drop> Drop for ReadOnlyEngine<
 }
 
 impl<E: Env, C: Cmp, FP, O, T> Model for ReadOnlyEngine<E, C, FP, O, T> {
-    ghost use Rattle.rusty_leveldb.specs.ReaderValue.{ReaderValue};
+    ghost use Rattle.rusty_leveldb.specs.Openings.ReaderValue.{ReaderValue};
 
     ghost Value = { ReaderValue C O T };
 

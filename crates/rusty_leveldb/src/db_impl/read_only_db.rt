@@ -1,10 +1,10 @@
 //! The public store that is read alone: an engine that only reads, beside a borrow of its
 //! environment, which each call gives to it.
 ghost use Rattle.std.specs.Prelude.{◌≡◌, ◌++◌, List, IfOk};
-ghost use Rattle.leveldb_version.specs.Format.{format_of};
-ghost use Rattle.rusty_leveldb.specs.Calls.{result_map};
-ghost use Rattle.rusty_leveldb.specs.Engine.{opening_of};
-ghost use Rattle.rusty_leveldb.specs.ReadAlone.{ReaderGets, ReaderIterates, ReaderOpens, ReaderWalks};
+ghost use Rattle.leveldb_files.specs.Stores.Format.{format_of};
+ghost use Rattle.rusty_leveldb.specs.Engines.Calls.{result_map};
+ghost use Rattle.rusty_leveldb.specs.Engines.Engine.{opening_of};
+ghost use Rattle.rusty_leveldb.specs.Openings.ReadAlone.{ReaderGets, ReaderIterates, ReaderOpens, ReaderWalks};
 
 use super::read_only::ReadOnlyEngine;
 use super::store::Store;

@@ -1,9 +1,9 @@
 //! Repairing a store whose files are lost or damaged.
 // LevelDB: db/repair.cc, RepairDB
 ghost use Rattle.leveldb_repair.specs.RepairStore.{WhyNotEnded};
-ghost use Rattle.leveldb_store.specs.BuildTable.{choices_of};
-ghost use Rattle.rusty_leveldb.specs.Engine.{opening_of};
-ghost use Rattle.rusty_leveldb.specs.Repair.{Repairs};
+ghost use Rattle.leveldb_store.specs.Tables.BuildTable.{choices_of};
+ghost use Rattle.rusty_leveldb.specs.Engines.Engine.{opening_of};
+ghost use Rattle.rusty_leveldb.specs.Repairs.Repair.{Repairs};
 
 use super::close::give_back;
 use super::names::check_name;

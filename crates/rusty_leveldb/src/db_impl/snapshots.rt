@@ -2,12 +2,12 @@
 // LevelDB: db/db_impl.cc, DBImpl::GetSnapshot and ReleaseSnapshot
 ghost use Rattle.std.specs.Prelude.{◌≡◌, Some, Contains, OnOk, IfErr};
 ghost use Rattle.leveldb_base.specs.declared.error.StatusCode.TheVariants.{InvalidArgument};
-ghost use Rattle.rusty_leveldb.specs.Causes.{IsNotHeld};
-ghost use Rattle.rusty_leveldb.specs.Serves.{snapshot_of};
-ghost use Rattle.rusty_leveldb.specs.Engine.{held_in};
-ghost use Rattle.leveldb_store.specs.BuildTable.{choices_of};
-ghost use Rattle.rusty_leveldb.specs.Calls.{EngineHolds, EngineReleases};
-ghost use Rattle.rusty_leveldb.specs.Views.{RefusesUnknown};
+ghost use Rattle.rusty_leveldb.specs.Machines.Causes.{IsNotHeld};
+ghost use Rattle.rusty_leveldb.specs.Engines.Serves.{snapshot_of};
+ghost use Rattle.rusty_leveldb.specs.Engines.Engine.{held_in};
+ghost use Rattle.leveldb_store.specs.Tables.BuildTable.{choices_of};
+ghost use Rattle.rusty_leveldb.specs.Engines.Calls.{EngineHolds, EngineReleases};
+ghost use Rattle.rusty_leveldb.specs.Programs.Views.{RefusesUnknown};
 
 use super::engine::Engine;
 use leveldb_base::cmp::{Cmp, InternalKeyCmp, UserCmp};

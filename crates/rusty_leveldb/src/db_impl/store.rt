@@ -3,14 +3,14 @@
 ghost use Rattle.std.specs.Prelude.{◌≡◌, ◌∷◌, ◌++◌, List, [], Some, None, false, IfOk};
 ghost use Rattle.std.specs.Option.{option_map};
 ghost use Rattle.leveldb_mem.specs.WriteBatch.{item_of};
-ghost use Rattle.rusty_leveldb.specs.Serves.{snapshot_of};
-ghost use Rattle.rusty_leveldb.specs.Engine.{opening_of};
-ghost use Rattle.leveldb_store.specs.BuildTable.{choices_of};
-ghost use Rattle.leveldb_version.specs.Format.{format_of};
-ghost use Rattle.rusty_leveldb.specs.Calls.{EngineAbandons, EngineCloses, EngineCompacts, EngineFlushes, EngineGets};
-ghost use Rattle.rusty_leveldb.specs.Calls.{EngineHolds, EngineOpens, EngineReleases, EngineWalks};
-ghost use Rattle.rusty_leveldb.specs.Calls.{EngineWrites, result_map};
-ghost use Rattle.rusty_leveldb.specs.Iterator.{EngineIterates};
+ghost use Rattle.rusty_leveldb.specs.Engines.Serves.{snapshot_of};
+ghost use Rattle.rusty_leveldb.specs.Engines.Engine.{opening_of};
+ghost use Rattle.leveldb_store.specs.Tables.BuildTable.{choices_of};
+ghost use Rattle.leveldb_files.specs.Stores.Format.{format_of};
+ghost use Rattle.rusty_leveldb.specs.Engines.Calls.{EngineAbandons, EngineCloses, EngineCompacts, EngineFlushes, EngineGets};
+ghost use Rattle.rusty_leveldb.specs.Engines.Calls.{EngineHolds, EngineOpens, EngineReleases, EngineWalks};
+ghost use Rattle.rusty_leveldb.specs.Engines.Calls.{EngineWrites, result_map};
+ghost use Rattle.rusty_leveldb.specs.Walks.Iterator.{EngineIterates};
 
 use super::engine::Engine;
 use crate::db_iter::{DBIterator, StoreTables};
@@ -58,7 +58,7 @@ pub struct Store<'e, E: Env, S: Drop> {
 /// | `Corruption` | a file of the store is damaged or missing |
 ///
 /// At each call `Ok`, `Err` and `Crash` say what it leaves, and name in brackets the row of the
-/// machine that its contract has for this (`specs/Calls`).
+/// machine that its contract has for this (`specs/Engines/Calls`).
 pub type DB<'e, E, C, FP> = Store<'e, E, Engine<E, C, FP>>;
 
 impl<E: Env, S: Drop> Drop for Store<'_, E, S> {

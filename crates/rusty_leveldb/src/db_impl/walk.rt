@@ -2,11 +2,11 @@
 ghost use Rattle.std.specs.Prelude.{◌≡◌, ◌++◌, List, IfOk, IfErr};
 ghost use Rattle.std.specs.Option.{option_map};
 ghost use Rattle.leveldb_base.specs.declared.error.StatusCode.TheVariants.{InvalidArgument};
-ghost use Rattle.leveldb_store.specs.BuildTable.{choices_of};
-ghost use Rattle.rusty_leveldb.specs.Calls.{EngineWalks};
-ghost use Rattle.rusty_leveldb.specs.Causes.{IsNotHeld};
-ghost use Rattle.rusty_leveldb.specs.Engine.{ReadsAt, held_in};
-ghost use Rattle.rusty_leveldb.specs.Serves.{snapshot_of};
+ghost use Rattle.leveldb_store.specs.Tables.BuildTable.{choices_of};
+ghost use Rattle.rusty_leveldb.specs.Engines.Calls.{EngineWalks};
+ghost use Rattle.rusty_leveldb.specs.Machines.Causes.{IsNotHeld};
+ghost use Rattle.rusty_leveldb.specs.Engines.Engine.{ReadsAt, held_in};
+ghost use Rattle.rusty_leveldb.specs.Engines.Serves.{snapshot_of};
 
 use super::engine::Engine;
 use leveldb_base::cmp::{Cmp, InternalKeyCmp, UserCmp};

@@ -2,12 +2,12 @@
 // LevelDB: db/db_impl.cc, DBImpl::Write
 ghost use Rattle.std.specs.Prelude.{◌≡◌, ◌∷◌, [], Some, None, false, is_some};
 ghost use Rattle.leveldb_mem.specs.WriteBatch.{item_of};
-ghost use Rattle.rusty_leveldb.specs.State.{open_mode};
-ghost use Rattle.leveldb_store.specs.BuildTable.{choices_of};
-ghost use Rattle.leveldb_version.specs.TableCache.{table_options};
-ghost use Rattle.leveldb_store.specs.OpenStore.{IsUnbroken};
-ghost use Rattle.rusty_leveldb.specs.Calls.{EngineFlushes, EngineWrites};
-ghost use Rattle.rusty_leveldb.specs.Room.{EngineMakesRoom, StoreMakesRoom};
+ghost use Rattle.rusty_leveldb.specs.Machines.State.{open_mode};
+ghost use Rattle.leveldb_store.specs.Tables.BuildTable.{choices_of};
+ghost use Rattle.leveldb_version.specs.Tables.TableCache.{table_options};
+ghost use Rattle.leveldb_store.specs.Keeping.OpenStore.{IsUnbroken};
+ghost use Rattle.rusty_leveldb.specs.Engines.Calls.{EngineFlushes, EngineWrites};
+ghost use Rattle.rusty_leveldb.specs.Engines.Room.{EngineMakesRoom, StoreMakesRoom};
 
 use super::engine::{Engine, mode_by};
 use crate::read_samples::ReadSamples;

@@ -3,10 +3,10 @@ ghost use Rattle.std.specs.Prelude.{◌≡◌, ◌≤◌, ◌+◌, ◌⊎◌, If
 ghost use Rattle.leveldb_base.specs.Error.{IsOutOfMemory};
 ghost use Rattle.leveldb_env.specs.Picks.{tails_of};
 ghost use Rattle.leveldb_env.specs.Record.{moment_of, CanCrashTo};
-ghost use Rattle.rusty_leveldb.specs.Engine.{opening_of};
-ghost use Rattle.leveldb_store.specs.BuildTable.{choices_of};
-ghost use Rattle.rusty_leveldb.specs.Lives.{IsAlwaysLife, IsCrash, ReportsLives};
-ghost use Rattle.rusty_leveldb.specs.RunCalls.{LivesByCalls};
+ghost use Rattle.rusty_leveldb.specs.Engines.Engine.{opening_of};
+ghost use Rattle.leveldb_store.specs.Tables.BuildTable.{choices_of};
+ghost use Rattle.rusty_leveldb.specs.Programs.Lives.{IsAlwaysLife, IsCrash, ReportsLives};
+ghost use Rattle.rusty_leveldb.specs.Programs.RunCalls.{LivesByCalls};
 
 use super::commands::{Command, Reply};
 use super::runs::answer;

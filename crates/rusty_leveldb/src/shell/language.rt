@@ -1,6 +1,6 @@
 //! Texts of commands.
 ghost use Rattle.std.specs.Prelude.{◌≡◌, ◌⊎◌, ◌∷◌, ◌++◌, [], Contains, IfOk};
-ghost use Rattle.rusty_leveldb.specs.Language.{IsReading};
+ghost use Rattle.rusty_leveldb.specs.Programs.Language.{IsReading};
 
 use super::commands::Command;
 use super::lines::read_line;

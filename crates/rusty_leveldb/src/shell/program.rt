@@ -2,9 +2,9 @@
 ghost use Rattle.std.specs.Prelude.{◌≡◌, ◌≤◌, ◌^◌, ◌++◌, ℕ, List, Result, drop, length, IfOk, IfErr, IfSome, MatchOption, OnOk, OnErr, IsErrAnd};
 ghost use Rattle.leveldb_base.specs.declared.error.Status.{Status};
 ghost use Rattle.std.specs.Io.KnownBytes.{Appends};
-ghost use Rattle.rusty_leveldb.specs.Language.{reply_lines};
-ghost use Rattle.rusty_leveldb.specs.Engine.{opening_of};
-ghost use Rattle.rusty_leveldb.specs.Program.{status_of, AskForRepair, AskForRun, ChecksInput, EndsProgram, HasRepaired, HasRunBy, IsBadInput, IsInputFault, IsFault, IsRepairAnswered, IsInput, IsPlayed, IsAnswered, IsStopped, NamesFolder, NamesNone, ldb_opening};
+ghost use Rattle.rusty_leveldb.specs.Programs.Language.{reply_lines};
+ghost use Rattle.rusty_leveldb.specs.Engines.Engine.{opening_of};
+ghost use Rattle.rusty_leveldb.specs.Programs.Program.{status_of, AskForRepair, AskForRun, ChecksInput, EndsProgram, HasRepaired, HasRunBy, IsBadInput, IsInputFault, IsFault, IsRepairAnswered, IsInput, IsPlayed, IsAnswered, IsStopped, NamesFolder, NamesNone, ldb_opening};
 ghost use Rattle.rusty_leveldb.specs.declared.shell.commands.Reply.{Reply};
 ghost use Rattle.rusty_leveldb.specs.declared.shell.program.Fault.TheVariants.{Usage};
 
@@ -280,7 +280,7 @@ impl From<Status> for Fault {
 }
 
 impl From<AllocError> for Fault {
-    ghost use Rattle.rusty_leveldb.specs.Program.{IsReadingFault};
+    ghost use Rattle.rusty_leveldb.specs.Programs.Program.{IsReadingFault};
 
     ghost from_gives = { λ _ fault. IsReadingFault fault };
 
@@ -290,7 +290,7 @@ impl From<AllocError> for Fault {
 }
 
 impl From<io::Error> for Fault {
-    ghost use Rattle.rusty_leveldb.specs.Program.{IsReadingFault};
+    ghost use Rattle.rusty_leveldb.specs.Programs.Program.{IsReadingFault};
 
     ghost from_gives = { λ _ fault. IsReadingFault fault };
 

@@ -1,14 +1,14 @@
 //! Runs of commands over a store that is read alone.
 ghost use Rattle.std.specs.Prelude.{◌≡◌, ◌≤◌, ◌++◌, List, None, OnOk, drop, length};
-ghost use Rattle.leveldb_version.specs.Format.{format_of};
-ghost use Rattle.leveldb_store.specs.Room.{FailsFor};
-ghost use Rattle.rusty_leveldb.specs.Engine.{opening_of};
-ghost use Rattle.rusty_leveldb.specs.ReadAlone.{AnswersAlone, ReadOpenExcused, ReadsOnly};
-ghost use Rattle.rusty_leveldb.specs.RunAlone.{HasReadAlone, IsRefusedAlone, ReaderAnswers};
-ghost use Rattle.rusty_leveldb.specs.Shell.{IsReplyOf};
-ghost use Rattle.rusty_leveldb.specs.State as machine;
-ghost use Rattle.rusty_leveldb.specs.Views.{steps_or};
-ghost use Rattle.rusty_leveldb.specs.Walks.{walk_of};
+ghost use Rattle.leveldb_files.specs.Stores.Format.{format_of};
+ghost use Rattle.leveldb_store.specs.Writing.Room.{FailsFor};
+ghost use Rattle.rusty_leveldb.specs.Engines.Engine.{opening_of};
+ghost use Rattle.rusty_leveldb.specs.Openings.ReadAlone.{AnswersAlone, ReadOpenExcused, ReadsOnly};
+ghost use Rattle.rusty_leveldb.specs.Programs.RunAlone.{HasReadAlone, IsRefusedAlone, ReaderAnswers};
+ghost use Rattle.rusty_leveldb.specs.Programs.Shell.{IsReplyOf};
+ghost use Rattle.rusty_leveldb.specs.Machines.State as machine;
+ghost use Rattle.rusty_leveldb.specs.Programs.Views.{steps_or};
+ghost use Rattle.rusty_leveldb.specs.Walks.Walks.{walk_of};
 
 use super::commands::{Command, Reply};
 use super::runs::looked_up;

@@ -1,6 +1,6 @@
 //! Replies as text.
 ghost use Rattle.std.specs.Prelude.{◌≡◌, ◌++◌, ℕ, List, length, take, flat_map, codes, decimal, OnOk, OnErr};
-ghost use Rattle.rusty_leveldb.specs.Language.{hex_word, refusal_line, step_line, reply_text, reply_lines, Appends};
+ghost use Rattle.rusty_leveldb.specs.Programs.Language.{hex_word, refusal_line, step_line, reply_text, reply_lines, Appends};
 
 use super::commands::{Reply, Step};
 use super::words::put_word;

@@ -2,17 +2,17 @@
 ghost use Rattle.std.specs.Prelude.{◌≡◌, ◌⊎◌, ◌++◌, List, length, drop, map, IfOk, OnOk, IfErr};
 ghost use Rattle.leveldb_base.specs.Error.{IsOutOfMemory};
 ghost use Rattle.leveldb_mem.specs.WriteBatch.{with_item, IsTooLong};
-ghost use Rattle.rusty_leveldb.specs.Causes.{IsLongBatch};
-ghost use Rattle.rusty_leveldb.specs.Calls.{EngineWrites};
-ghost use Rattle.rusty_leveldb.specs.Engine.{opening_of};
-ghost use Rattle.rusty_leveldb.specs.Unopened.{OpenExcused};
-ghost use Rattle.leveldb_store.specs.BuildTable.{choices_of};
-ghost use Rattle.leveldb_store.specs.Room.{FailsFor};
-ghost use Rattle.leveldb_store.specs.SoundCall.{TimeGoesOn};
-ghost use Rattle.rusty_leveldb.specs.RunCalls.{CallsEngine, RunsByCalls};
-ghost use Rattle.rusty_leveldb.specs.Serves.{done_or, found_or};
-ghost use Rattle.rusty_leveldb.specs.State as machine;
-ghost use Rattle.rusty_leveldb.specs.Shell.{HasRun, IsReplyOf, change_of};
+ghost use Rattle.rusty_leveldb.specs.Machines.Causes.{IsLongBatch};
+ghost use Rattle.rusty_leveldb.specs.Engines.Calls.{EngineWrites};
+ghost use Rattle.rusty_leveldb.specs.Engines.Engine.{opening_of};
+ghost use Rattle.rusty_leveldb.specs.Openings.Unopened.{OpenExcused};
+ghost use Rattle.leveldb_store.specs.Tables.BuildTable.{choices_of};
+ghost use Rattle.leveldb_store.specs.Writing.Room.{FailsFor};
+ghost use Rattle.leveldb_store.specs.Keeping.SoundCall.{TimeGoesOn};
+ghost use Rattle.rusty_leveldb.specs.Programs.RunCalls.{CallsEngine, RunsByCalls};
+ghost use Rattle.rusty_leveldb.specs.Engines.Serves.{done_or, found_or};
+ghost use Rattle.rusty_leveldb.specs.Machines.State as machine;
+ghost use Rattle.rusty_leveldb.specs.Programs.Shell.{HasRun, IsReplyOf, change_of};
 
 use super::commands::{Command, Item, Reply};
 use super::views::{get_at, release, take, walk};

@@ -2,11 +2,11 @@
 ghost use Rattle.std.specs.Prelude.{◌≡◌, ◌++◌, ◌∷◌, [], Err, Ok, Some, length, slice_get, IfErr, IfOk};
 ghost use Rattle.std.specs.Option.{option_map};
 ghost use Rattle.leveldb_iter.specs.declared.snapshot.Snapshot.{Snapshot as HeldSnapshot};
-ghost use Rattle.leveldb_store.specs.BuildTable.{choices_of};
-ghost use Rattle.rusty_leveldb.specs.Calls.{EngineGets, EngineHolds, EngineReleases, EngineWalks, result_map};
-ghost use Rattle.rusty_leveldb.specs.RunCalls.{held_named, view_named};
-ghost use Rattle.rusty_leveldb.specs.Serves.{snapshot_of};
-ghost use Rattle.rusty_leveldb.specs.Views.{steps_in};
+ghost use Rattle.leveldb_store.specs.Tables.BuildTable.{choices_of};
+ghost use Rattle.rusty_leveldb.specs.Engines.Calls.{EngineGets, EngineHolds, EngineReleases, EngineWalks, result_map};
+ghost use Rattle.rusty_leveldb.specs.Programs.RunCalls.{held_named, view_named};
+ghost use Rattle.rusty_leveldb.specs.Engines.Serves.{snapshot_of};
+ghost use Rattle.rusty_leveldb.specs.Programs.Views.{steps_in};
 
 use crate::db_impl::Engine;
 use bytes::Bytes;

@@ -2,8 +2,8 @@
 //! none; and numbers.
 ghost use Rattle.std.specs.Prelude.{◌≡◌, ◌≢◌, ◌∷◌, ◌++◌, [], List, ℕ, IfOk, OnOk, MatchOption, Contains};
 ghost use Rattle.hex.specs.Hex.{encode_lower, IsBytes};
-ghost use Rattle.rusty_leveldb.specs.Language.{hex_word, Appends};
-ghost use Rattle.rusty_leveldb.specs.Spelling.{IsWord, IsWordReading, IsNumberReading};
+ghost use Rattle.rusty_leveldb.specs.Programs.Language.{hex_word, Appends};
+ghost use Rattle.rusty_leveldb.specs.Programs.Spelling.{IsWord, IsWordReading, IsNumberReading};
 
 use hex::FromHexError;
 use std::alloc::{AllocError, Global};

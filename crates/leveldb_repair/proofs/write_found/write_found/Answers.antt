@@ -1,5 +1,5 @@
 use Rattle.leveldb_base.proofs.HistoryLemmas.{exact_order}
-use Rattle.leveldb_store.proofs.BuildTableLemmas.{built_of_store}
+use Rattle.leveldb_store.proofs.Tables.BuildTableLemmas.{built_of_store}
 use Rattle.leveldb_repair.proofs.WriteFoundLemmas.{all_written}
 use Rattle.leveldb_repair.proofs.write_found.write_found.Goals as goal
 

@@ -5,9 +5,9 @@ use Rattle.leveldb_env.specs.EnvFile.{opened}
 use Rattle.leveldb_env.specs.contracts.compressor.CompressorListCompressors.TheImpl.{ghosts as compressors}
 use Rattle.leveldb_iter.specs.Walk.{key_order}
 use Rattle.leveldb_table.specs.TableBuilder.{order_of}
-use Rattle.leveldb_store.specs.BuildTable.{passed}
-use Rattle.leveldb_store.specs.TableFile.{AddsAllToFile}
-use Rattle.leveldb_store.proofs.BuildTableLemmas.{added_so_far, adds_all-none, next_accepted, next_rises, not_added_so_far, pair_passed, passed_first, stays_beside, stays_over-none, stays_over-trans, taken_all, walk_failed_so_far}
+use Rattle.leveldb_store.specs.Tables.BuildTable.{passed}
+use Rattle.leveldb_store.specs.Tables.TableFile.{AddsAllToFile}
+use Rattle.leveldb_store.proofs.Tables.BuildTableLemmas.{added_so_far, adds_all-none, next_accepted, next_rises, not_added_so_far, pair_passed, passed_first, stays_beside, stays_over-none, stays_over-trans, taken_all, walk_failed_so_far}
 use Rattle.leveldb_store.proofs.build.add_pairs.Goals as goal
 
 pub adding-init : goal.adding-init

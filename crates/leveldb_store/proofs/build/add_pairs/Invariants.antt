@@ -4,8 +4,8 @@ use Rattle.leveldb_env.specs.EnvFile.{opened}
 use Rattle.leveldb_env.specs.contracts.compressor.CompressorListCompressors.TheImpl.{ghosts as compressors}
 use Rattle.leveldb_iter.specs.Walk.{key_order}
 use Rattle.leveldb_table.specs.TableBuilder.{order_of}
-use Rattle.leveldb_store.specs.BuildTable.{StaysOver}
-use Rattle.leveldb_store.proofs.BuildTableLemmas.{AddsSoFar}
+use Rattle.leveldb_store.specs.Tables.BuildTable.{StaysOver}
+use Rattle.leveldb_store.proofs.Tables.BuildTableLemmas.{AddsSoFar}
 use Rattle.leveldb_store.proofs.build.add_pairs.Given as goal
 
 -- the builder has taken the pairs that the walk has passed

@@ -2,7 +2,7 @@ use Rattle.std.proofs.Common.{◌∙◌, ap, map, subst, sym}
 use Rattle.leveldb_base.specs.Entries.{internal_pair}
 use Rattle.leveldb_base.specs.History.{AreRising}
 use Rattle.leveldb_base.specs.KeyTypes.{internal_cmp}
-use Rattle.leveldb_store.proofs.BuildTableLemmas.{Each-internal, MakesTable-never, tagged_accepted, tagged_internal}
+use Rattle.leveldb_store.proofs.Tables.BuildTableLemmas.{Each-internal, MakesTable-never, tagged_accepted, tagged_internal}
 use Rattle.leveldb_store.proofs.build.build_memtable.Goals as goal
 
 pub build_table-requires-clause-reads : goal.build_table-requires-clause-reads

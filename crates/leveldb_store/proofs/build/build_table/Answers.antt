@@ -7,12 +7,12 @@ use Rattle.leveldb_env.specs.contracts.compressor.CompressorListCompressors.TheI
 use Rattle.leveldb_env.specs.contracts.filter.internal.InternalFilterPolicyFilterPolicy.TheImpl.{ghosts as key_policy}
 use Rattle.leveldb_iter.specs.Walk.{key_order}
 use Rattle.leveldb_table.specs.TableBuilder.{IsNewBuilder, order_of}
-use Rattle.leveldb_version.proofs.RecoverLemmas.{cause_of_error}
-use Rattle.leveldb_version.specs.Store.{IsFirstKey}
-use Rattle.leveldb_store.specs.BuildTable.{choices_of}
-use Rattle.leveldb_store.proofs.BuildTableLemmas.{MakesTable-before, MakesTable-failed, MakesTable-none, MakesTable-written, built_of_store, first_key_is, first_some, none_first, stays_beside, stays_over-none, stays_over-trans, written_why}
-use Rattle.leveldb_store.proofs.TableFileLemmas.{opening_changes}
-use Rattle.leveldb_store.proofs.WriteTableLemmas.{failed_adding, table_ended, table_made}
+use Rattle.leveldb_version.proofs.Sets.RecoverLemmas.{cause_of_error}
+use Rattle.leveldb_files.specs.Stores.Store.{IsFirstKey}
+use Rattle.leveldb_store.specs.Tables.BuildTable.{choices_of}
+use Rattle.leveldb_store.proofs.Tables.BuildTableLemmas.{MakesTable-before, MakesTable-failed, MakesTable-none, MakesTable-written, built_of_store, first_key_is, first_some, none_first, stays_beside, stays_over-none, stays_over-trans, written_why}
+use Rattle.leveldb_store.proofs.Tables.TableFileLemmas.{opening_changes}
+use Rattle.leveldb_store.proofs.Tables.WriteTableLemmas.{failed_adding, table_ended, table_made}
 use Rattle.leveldb_store.proofs.build.build_table.Goals as goal
 
 -- there is no path

@@ -1,4 +1,4 @@
-use Rattle.leveldb_store.proofs.LogDamageLemmas.{no_end_before}
+use Rattle.leveldb_store.proofs.Logs.LogDamageLemmas.{no_end_before}
 use Rattle.leveldb_store.proofs.damage.has_end_from.Goals as goal
 
 pub returns : goal.returns

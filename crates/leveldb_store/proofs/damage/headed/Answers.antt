@@ -1,7 +1,7 @@
 use Rattle.std.proofs.Common.{◌∙◌, ◌+◌, ◌++◌, ◌<◌, ◌≤◌, ap, drop, length, subst, sym}
 use Rattle.std.proofs.lemmas.List.{take-append-drop}
 use Rattle.leveldb_mem.specs.Log.{log_block_size, room}
-use Rattle.leveldb_store.proofs.LogDamageLemmas.{headed_by, if_none, none_cut, none_headless, none_past}
+use Rattle.leveldb_store.proofs.Logs.LogDamageLemmas.{headed_by, if_none, none_cut, none_headless, none_past}
 use Rattle.leveldb_store.proofs.damage.headed.Goals as goal
 
 pub returns-then-body-lt-HEADER_SIZE-clause-none :

@@ -1,5 +1,5 @@
 use Rattle.std.proofs.Common.{◌≡◌, ◌∙◌, false, sym, true}
-use Rattle.leveldb_store.proofs.LogDamageLemmas.{lost_later}
+use Rattle.leveldb_store.proofs.Logs.LogDamageLemmas.{lost_later}
 use Rattle.leveldb_store.proofs.damage.left_out.Goals as goal
 
 pub returns-then-is_torn-clause-loses : goal.returns-then-is_torn-clause-loses

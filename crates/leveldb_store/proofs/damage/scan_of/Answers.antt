@@ -1,8 +1,8 @@
 use Rattle.std.proofs.Common.{◌%◌, ap, arith, length, length-drop, subst, sym}
 use Rattle.std.proofs.lemmas.List.{take_rest}
 use Rattle.leveldb_mem.specs.Log.{log_block_size}
-use Rattle.leveldb_store.specs.Damage.{AreWholeUpTo, IsWholeFront}
-use Rattle.leveldb_store.proofs.LogDamageLemmas.{whole_on}
+use Rattle.leveldb_store.specs.Logs.Damage.{AreWholeUpTo, IsWholeFront}
+use Rattle.leveldb_store.proofs.Logs.LogDamageLemmas.{whole_on}
 use Rattle.leveldb_store.proofs.damage.scan_of.Goals as goal
 
 pub loop-found-preserved : goal.loop-found-preserved

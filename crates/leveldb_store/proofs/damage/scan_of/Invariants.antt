@@ -1,5 +1,5 @@
 use Rattle.std.proofs.Common.{◌≤◌, ◌-◌, length}
-use Rattle.leveldb_store.specs.Damage.{AreWholeUpTo}
+use Rattle.leveldb_store.specs.Logs.Damage.{AreWholeUpTo}
 use Rattle.leveldb_store.proofs.damage.scan_of.Given as goal
 
 abbrev pub invariant-loop-found : goal.invariant-loop-found

@@ -1,6 +1,6 @@
 use Rattle.std.proofs.Common.{◌≡◌, ◌⊎◌, false, subst, sym}
 use Rattle.leveldb_mem.specs.Log.{NoFragment, log_block_size}
-use Rattle.leveldb_store.proofs.LogDamageLemmas.{headed_end, headed_type, no_end}
+use Rattle.leveldb_store.proofs.Logs.LogDamageLemmas.{headed_end, headed_type, no_end}
 use Rattle.leveldb_store.proofs.damage.starts_with_end.Goals as goal
 
 pub returns-in_default : goal.returns-in_default

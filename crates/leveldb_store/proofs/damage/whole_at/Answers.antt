@@ -1,6 +1,6 @@
 use Rattle.std.proofs.Common.{length, refl}
 use Rattle.std.proofs.lemmas.Bool.{lt-ltb, ltb-true}
-use Rattle.leveldb_store.proofs.LogDamageLemmas.{whole_front}
+use Rattle.leveldb_store.proofs.Logs.LogDamageLemmas.{whole_front}
 use Rattle.leveldb_store.proofs.damage.whole_at.Goals as goal
 
 pub returns-clause-whole : goal.returns-clause-whole

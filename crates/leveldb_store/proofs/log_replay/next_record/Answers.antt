@@ -1,7 +1,7 @@
 use Rattle.std.proofs.Common.{rules}
 use Rattle.std.proofs.lemmas.Result.{MatchResult-weaker}
 use Rattle.leveldb_env.proofs.EnvFileLemmas.{ends_as}
-use Rattle.leveldb_store.proofs.LogSourceLemmas.{finds_borrowed, name_kept, read_named, stops_borrowed}
+use Rattle.leveldb_store.proofs.Logs.LogSourceLemmas.{finds_borrowed, name_kept, read_named, stops_borrowed}
 use Rattle.leveldb_store.proofs.log_replay.next_record.Goals as goal
 
 pub returns-clause-found : goal.returns-clause-found

@@ -1,6 +1,6 @@
 use Rattle.leveldb_base.proofs.HistoryLemmas.{exact_order}
-use Rattle.leveldb_store.proofs.MergeInputsLemmas.{tables_merged}
-use Rattle.leveldb_store.proofs.ViewStoreLemmas.{keys_of}
+use Rattle.leveldb_store.proofs.Compactions.MergeInputsLemmas.{tables_merged}
+use Rattle.leveldb_store.proofs.Reading.ViewStoreLemmas.{keys_of}
 use Rattle.leveldb_store.proofs.merge_inputs.merge_inputs.Goals as goal
 
 pub returns-clause-merges : goal.returns-clause-merges

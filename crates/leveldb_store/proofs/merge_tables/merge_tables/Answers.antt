@@ -1,9 +1,9 @@
 use Rattle.std.proofs.Common.{◌∙◌, None, inl, refl}
 use Rattle.std.proofs.lemmas.Result.{err_from_is_err_and}
 use Rattle.leveldb_base.proofs.HistoryLemmas.{exact_order}
-use Rattle.leveldb_store.proofs.MergeLoopLemmas.{back_may, gives_may, may_give_one, may_rise, merge_endless, merge_finished, merge_unbegun, merge_unmoved, merge_untaken, so_far_begun, so_far_next}
-use Rattle.leveldb_store.proofs.MergingLemmas.{merged_none}
-use Rattle.leveldb_store.proofs.ReplayFilesLemmas.{GivesNumbers-refl}
+use Rattle.leveldb_store.proofs.Compactions.MergeLoopLemmas.{back_may, gives_may, may_give_one, may_rise, merge_endless, merge_finished, merge_unbegun, merge_unmoved, merge_untaken, so_far_begun, so_far_next}
+use Rattle.leveldb_store.proofs.Compactions.MergingLemmas.{merged_none}
+use Rattle.leveldb_store.proofs.Logs.ReplayFilesLemmas.{GivesNumbers-refl}
 use Rattle.leveldb_store.proofs.merge_tables.merge_tables.Goals as goal
 
 -- the walk doesn't come to its first pair

@@ -2,10 +2,10 @@ use Rattle.std.proofs.Common.{◌≡◌, ◌-◌, ◌^◌}
 use Rattle.leveldb_base.specs.contracts.cmp.internal.InternalKeyCmpCmp.TheImpl.{ghosts as key_cmp}
 use Rattle.leveldb_env.specs.contracts.compressor.CompressorListCompressors.TheImpl.{ghosts as compressors}
 use Rattle.leveldb_env.specs.contracts.filter.internal.InternalFilterPolicyFilterPolicy.TheImpl.{ghosts as key_policy}
-use Rattle.leveldb_store.specs.BuildTable.{choices_of}
-use Rattle.leveldb_store.specs.Merging.{MovesLeaveFiles, merge_of}
-use Rattle.leveldb_store.specs.Opening.{GivesNumbers, TakesBackNew}
-use Rattle.leveldb_store.proofs.MergeLoopLemmas.{MergesSoFar}
+use Rattle.leveldb_store.specs.Tables.BuildTable.{choices_of}
+use Rattle.leveldb_store.specs.Compactions.Merging.{MovesLeaveFiles, merge_of}
+use Rattle.leveldb_store.specs.Openings.Opening.{GivesNumbers, TakesBackNew}
+use Rattle.leveldb_store.proofs.Compactions.MergeLoopLemmas.{MergesSoFar}
 use Rattle.leveldb_store.proofs.merge_tables.merge_tables.Given as goal
 
 -- the pairs that the walk has passed are merged

@@ -2,7 +2,7 @@ use Rattle.std.proofs.Common.{refl, rules}
 use Rattle.std.proofs.lemmas.Result.{MatchResult-weaker}
 use Rattle.leveldb_env.proofs.EnvFileLemmas.{ends_as}
 use Rattle.leveldb_env.specs.contracts.compressor.CompressorListCompressors.TheImpl.{ghosts as compressors}
-use Rattle.leveldb_store.proofs.TableFileLemmas.{added_borrowed, not_added_borrowed}
+use Rattle.leveldb_store.proofs.Tables.TableFileLemmas.{added_borrowed, not_added_borrowed}
 use Rattle.leveldb_store.proofs.table_file.add_pair.Goals as goal
 
 pub returns-clause-ok : goal.returns-clause-ok

@@ -2,7 +2,7 @@ use Rattle.std.proofs.Common.{refl, rules}
 use Rattle.std.proofs.lemmas.Result.{MatchResult-weaker}
 use Rattle.leveldb_env.proofs.EnvFileLemmas.{ends_as}
 use Rattle.leveldb_env.specs.contracts.compressor.CompressorListCompressors.TheImpl.{ghosts as compressors}
-use Rattle.leveldb_store.proofs.TableFileLemmas.{finished_borrowed, not_finished_borrowed}
+use Rattle.leveldb_store.proofs.Tables.TableFileLemmas.{finished_borrowed, not_finished_borrowed}
 use Rattle.leveldb_store.proofs.table_file.finish_table.Goals as goal
 
 pub returns-clause-ok : goal.returns-clause-ok

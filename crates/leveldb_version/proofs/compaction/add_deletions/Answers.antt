@@ -1,8 +1,9 @@
 use Rattle.std.proofs.Common.{List, map, subst, sym, take}
-use Rattle.leveldb_version.specs.Picking.{DeletesFiles}
-use Rattle.leveldb_version.specs.VersionEdit.{NewFile, new_file_of}
-use Rattle.leveldb_version.proofs.CompactionCallLemmas.{one_more_deleted}
-use Rattle.leveldb_version.proofs.InputsLemmas.{mapped_more}
+use Rattle.leveldb_version.specs.Compactions.Picking.{DeletesFiles}
+use Rattle.leveldb_files.specs.Edits.Edit.{NewFile}
+use Rattle.leveldb_version.specs.Edits.VersionEdit.{new_file_of}
+use Rattle.leveldb_version.proofs.Compactions.CompactionCallLemmas.{one_more_deleted}
+use Rattle.leveldb_version.proofs.Compactions.InputsLemmas.{mapped_more}
 use Rattle.leveldb_version.proofs.compaction.add_deletions.Goals as goal
 
 pub loop-file-preserved : goal.loop-file-preserved

@@ -2,10 +2,11 @@ use Rattle.std.proofs.Common.{◌≡◌, ◌∙◌, ◌++◌, ◌∷◌, List, [
 use Rattle.std.proofs.lemmas.List.{map_push}
 use Rattle.std.specs.Borrow.{Bor}
 use Rattle.leveldb_base.specs.declared.types.FileMetaData.{FileMetaData}
-use Rattle.leveldb_version.proofs.CompactionCallLemmas.{none_of_level, pointer_is_set}
-use Rattle.leveldb_version.specs.Inputs.{AreKeyEnds}
-use Rattle.leveldb_version.specs.Version.{borrowed_files}
-use Rattle.leveldb_version.specs.VersionEdit.{Edit, Pointer, edit_of, pointer_of}
+use Rattle.leveldb_version.proofs.Compactions.CompactionCallLemmas.{none_of_level, pointer_is_set}
+use Rattle.leveldb_version.specs.Compactions.Inputs.{AreKeyEnds}
+use Rattle.leveldb_version.specs.Versions.Version.{borrowed_files}
+use Rattle.leveldb_files.specs.Edits.Edit.{Edit, Pointer}
+use Rattle.leveldb_version.specs.Edits.VersionEdit.{edit_of, pointer_of}
 use Rattle.leveldb_version.proofs.compaction.pointing_edit.Goals as goal
 
 pub returns-in_default-clause-pointer : goal.returns-in_default-clause-pointer

@@ -1,11 +1,12 @@
 use Rattle.std.proofs.Common.{◌≡◌, ◌∙◌, ◌++◌, List, ap, map, ℕ}
 use Rattle.std.specs.Borrow.{Bor}
 use Rattle.leveldb_base.specs.declared.types.FileMetaData.{FileMetaData}
-use Rattle.leveldb_version.proofs.CompactionCallLemmas.{copies_made}
-use Rattle.leveldb_version.proofs.OverlapLemmas.{if_ok_more}
-use Rattle.leveldb_version.specs.Inputs.{input_files}
-use Rattle.leveldb_version.specs.Version.{borrowed_files}
-use Rattle.leveldb_version.specs.VersionEdit.{NewFile, new_file_of}
+use Rattle.leveldb_version.proofs.Compactions.CompactionCallLemmas.{copies_made}
+use Rattle.leveldb_files.proofs.Levels.OverlapLemmas.{if_ok_more}
+use Rattle.leveldb_version.specs.Compactions.Inputs.{input_files}
+use Rattle.leveldb_version.specs.Versions.Version.{borrowed_files}
+use Rattle.leveldb_files.specs.Edits.Edit.{NewFile}
+use Rattle.leveldb_version.specs.Edits.VersionEdit.{new_file_of}
 use Rattle.leveldb_version.proofs.compaction.version_of.Goals as goal
 
 pub returns-clause-files : goal.returns-clause-files

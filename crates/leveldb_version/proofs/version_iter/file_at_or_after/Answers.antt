@@ -1,6 +1,6 @@
 use Rattle.std.proofs.Common.{rules}
 use Rattle.std.proofs.lemmas.List.Sorted.{IsPartitionPoint-from_clause}
-use Rattle.leveldb_version.specs.VersionIter.{ends_before_key}
+use Rattle.leveldb_version.specs.Walks.VersionIter.{ends_before_key}
 use Rattle.leveldb_version.proofs.version_iter.file_at_or_after.Goals as goal
 
 pub returns-clause-parts : goal.returns-clause-parts

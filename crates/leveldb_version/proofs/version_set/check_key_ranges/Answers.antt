@@ -3,9 +3,10 @@ use Rattle.std.proofs.lemmas.List.{take_all}
 use Rattle.std.proofs.lemmas.List.Elements.{All-map, All-more}
 use Rattle.std.specs.List.{All}
 use Rattle.leveldb_base.specs.declared.types.FileMetaData.{FileMetaData}
-use Rattle.leveldb_version.specs.VersionEdit.{NewFile, new_file_of}
-use Rattle.leveldb_version.specs.VersionSet.{IsKeyRange}
-use Rattle.leveldb_version.proofs.VersionSetLemmas.{holds_of_element}
+use Rattle.leveldb_files.specs.Edits.Edit.{NewFile}
+use Rattle.leveldb_version.specs.Edits.VersionEdit.{new_file_of}
+use Rattle.leveldb_files.specs.Edits.VersionSet.{IsKeyRange}
+use Rattle.leveldb_files.proofs.Edits.VersionSetLemmas.{holds_of_element}
 use Rattle.leveldb_version.proofs.version_set.check_key_ranges.Goals as goal
 
 pub returns-then-not-has_key_range-clause-malformed : goal.returns-then-not-has_key_range-clause-malformed

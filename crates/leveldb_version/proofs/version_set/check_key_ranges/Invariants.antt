@@ -1,6 +1,6 @@
 use Rattle.std.proofs.Common.{take}
 use Rattle.std.specs.List.{All}
-use Rattle.leveldb_version.specs.VersionSet.{IsKeyRange}
+use Rattle.leveldb_files.specs.Edits.VersionSet.{IsKeyRange}
 use Rattle.leveldb_version.proofs.version_set.check_key_ranges.Given as goal
 
 abbrev pub invariant-loop-file : goal.invariant-loop-file

@@ -1,4 +1,4 @@
-use Rattle.rusty_leveldb.proofs.RepairLawsLemmas.{another_finds_the_same}
+use Rattle.rusty_leveldb.proofs.Repairs.RepairLawsLemmas.{another_finds_the_same}
 use Rattle.rusty_leveldb.proofs.promises.another_repair_finds_the_same.Goals as goal
 
 pub returns : goal.returns

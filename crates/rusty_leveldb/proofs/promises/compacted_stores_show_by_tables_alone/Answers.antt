@@ -1,4 +1,4 @@
-use Rattle.rusty_leveldb.proofs.CompactionLawsLemmas.{views_in_tables}
+use Rattle.rusty_leveldb.proofs.Compactions.CompactionLawsLemmas.{views_in_tables}
 use Rattle.rusty_leveldb.proofs.promises.compacted_stores_show_by_tables_alone.Goals as goal
 
 pub returns : goal.returns

@@ -1,4 +1,4 @@
-use Rattle.rusty_leveldb.proofs.Crashes.{crash_between, crash_inside}
+use Rattle.rusty_leveldb.proofs.Engines.Crashes.{crash_between, crash_inside}
 use Rattle.rusty_leveldb.proofs.promises.crashes_leave_a_prefix.Goals as goal
 
 pub returns-clause-between : goal.returns-clause-between

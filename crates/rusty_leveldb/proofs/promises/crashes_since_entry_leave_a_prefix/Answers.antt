@@ -1,5 +1,5 @@
-use Rattle.rusty_leveldb.specs.Machine.{risk_of}
-use Rattle.rusty_leveldb.proofs.Moments.{spared_since}
+use Rattle.rusty_leveldb.specs.Machines.Machine.{risk_of}
+use Rattle.rusty_leveldb.proofs.Engines.Moments.{spared_since}
 use Rattle.rusty_leveldb.proofs.promises.crashes_since_entry_leave_a_prefix.Goals as goal
 
 pub returns : goal.returns

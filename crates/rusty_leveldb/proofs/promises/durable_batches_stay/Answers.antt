@@ -1,4 +1,4 @@
-use Rattle.rusty_leveldb.proofs.LawsLemmas.{durable_stays, synced_stays, each_answer_parts}
+use Rattle.rusty_leveldb.proofs.Machines.LawsLemmas.{durable_stays, synced_stays, each_answer_parts}
 use Rattle.rusty_leveldb.proofs.promises.durable_batches_stay.Goals as goal
 
 pub returns-clause-durable : goal.returns-clause-durable

@@ -1,4 +1,4 @@
-use Rattle.rusty_leveldb.proofs.ReadsLemmas.{nothing_stands, one_reading}
+use Rattle.rusty_leveldb.proofs.Engines.ReadsLemmas.{nothing_stands, one_reading}
 use Rattle.rusty_leveldb.proofs.promises.files_have_one_reading.Goals as goal
 
 pub returns-clause-one : goal.returns-clause-one

@@ -1,4 +1,4 @@
-use Rattle.rusty_leveldb.proofs.LawsLemmas.{history_is_asked, history_is_placed, more_is_asked}
+use Rattle.rusty_leveldb.proofs.Machines.LawsLemmas.{history_is_asked, history_is_placed, more_is_asked}
 use Rattle.rusty_leveldb.proofs.promises.histories_are_made_of_writes.Goals as goal
 
 pub returns-clause-all : goal.returns-clause-all

@@ -1,4 +1,4 @@
-use Rattle.rusty_leveldb.proofs.IteratorLawsLemmas.{prev_undoes_next}
+use Rattle.rusty_leveldb.proofs.Walks.IteratorLawsLemmas.{prev_undoes_next}
 use Rattle.rusty_leveldb.proofs.promises.moves_back_undo_moves_forward.Goals as goal
 
 pub returns : goal.returns

@@ -1,5 +1,5 @@
-use Rattle.rusty_leveldb.proofs.LawsLemmas.{lives_fit}
-use Rattle.rusty_leveldb.proofs.MachineLemmas.{step_fits, crash_between_fits, crash_inside_fits}
+use Rattle.rusty_leveldb.proofs.Machines.LawsLemmas.{lives_fit}
+use Rattle.rusty_leveldb.proofs.Machines.MachineLemmas.{step_fits, crash_between_fits, crash_inside_fits}
 use Rattle.rusty_leveldb.proofs.promises.numbers_always_fit.Goals as goal
 
 pub returns-clause-steps : goal.returns-clause-steps

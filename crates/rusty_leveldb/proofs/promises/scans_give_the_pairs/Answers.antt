@@ -1,4 +1,4 @@
-use Rattle.rusty_leveldb.proofs.ScanLemmas.{scan_gives_pairs}
+use Rattle.rusty_leveldb.proofs.Walks.ScanLemmas.{scan_gives_pairs}
 use Rattle.rusty_leveldb.proofs.promises.scans_give_the_pairs.Goals as goal
 
 pub returns : goal.returns

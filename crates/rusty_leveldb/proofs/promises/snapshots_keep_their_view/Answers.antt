@@ -1,4 +1,4 @@
-use Rattle.rusty_leveldb.proofs.ViewsLemmas.{held_stays, snapshot_is_read, views_stay}
+use Rattle.rusty_leveldb.proofs.Machines.ViewsLemmas.{held_stays, snapshot_is_read, views_stay}
 use Rattle.rusty_leveldb.proofs.promises.snapshots_keep_their_view.Goals as goal
 
 pub returns-clause-views : goal.returns-clause-views

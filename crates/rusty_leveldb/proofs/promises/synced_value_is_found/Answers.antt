@@ -1,4 +1,4 @@
-use Rattle.rusty_leveldb.proofs.LawsLemmas.{synced_is_read}
+use Rattle.rusty_leveldb.proofs.Machines.LawsLemmas.{synced_is_read}
 use Rattle.rusty_leveldb.proofs.promises.synced_value_is_found.Goals as goal
 
 pub returns : goal.returns

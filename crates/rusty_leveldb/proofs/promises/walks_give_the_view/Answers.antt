@@ -1,4 +1,4 @@
-use Rattle.rusty_leveldb.proofs.WalkLawsLemmas.{forward_walk_gives_view, prev_undoes_advance}
+use Rattle.rusty_leveldb.proofs.Machines.WalkLawsLemmas.{forward_walk_gives_view, prev_undoes_advance}
 use Rattle.rusty_leveldb.proofs.promises.walks_give_the_view.Goals as goal
 
 pub returns-clause-forward : goal.returns-clause-forward

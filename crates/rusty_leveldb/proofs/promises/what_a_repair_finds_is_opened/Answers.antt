@@ -1,4 +1,4 @@
-use Rattle.rusty_leveldb.proofs.RepairLawsLemmas.{opens_what_repair_found, repair_finds_what_opens}
+use Rattle.rusty_leveldb.proofs.Repairs.RepairLawsLemmas.{opens_what_repair_found, repair_finds_what_opens}
 use Rattle.rusty_leveldb.proofs.promises.what_a_repair_finds_is_opened.Goals as goal
 
 pub returns-clause-opens : goal.returns-clause-opens

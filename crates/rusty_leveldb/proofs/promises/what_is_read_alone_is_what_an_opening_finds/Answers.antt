@@ -1,4 +1,4 @@
-use Rattle.rusty_leveldb.proofs.ReadAloneLawsLemmas.{reading_keeps_states, reads_what_opens}
+use Rattle.rusty_leveldb.proofs.Openings.ReadAloneLawsLemmas.{reading_keeps_states, reads_what_opens}
 use Rattle.rusty_leveldb.proofs.promises.what_is_read_alone_is_what_an_opening_finds.Goals as goal
 
 pub returns-clause-shows : goal.returns-clause-shows

@@ -1,5 +1,5 @@
 use Rattle.std.proofs.Common.{◌≡◌, take}
-use Rattle.rusty_leveldb.specs.ReadSamples.{after_charges}
+use Rattle.rusty_leveldb.specs.Walks.ReadSamples.{after_charges}
 use Rattle.rusty_leveldb.proofs.read_samples.charge_all.Given as goal
 
 -- the files before this one are charged

@@ -1,7 +1,7 @@
 use Rattle.std.proofs.Common.{◌≡◌, ◌∷◌, [], ◌++◌, List, map, refl, sym, ap, subst, ◌∙◌, append-nil, take}
 use Rattle.std.proofs.lemmas.List.{take_more}
 use Rattle.leveldb_mem.specs.contracts.memtable.iterator.MemtableIteratorLdbIterator.TheImpl as iterating
-use Rattle.leveldb_version.proofs.BatchesLemmas.{each_more}
+use Rattle.leveldb_files.proofs.Stores.BatchesLemmas.{each_more}
 use Rattle.leveldb_repair.specs.RepairSteps.{AreOverMemory}
 use Rattle.leveldb_repair.specs.declared.found_walk.FoundWalk.TheVariants.{Memory}
 use Rattle.leveldb_repair.proofs.repair_store.children.add_memory.Goals as goal

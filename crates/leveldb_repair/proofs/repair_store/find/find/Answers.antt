@@ -1,6 +1,6 @@
 use Rattle.std.proofs.Common.{◌≡◌, ◌∙◌, refl, sym, subst, true, false}
 use Rattle.std.proofs.lemmas.Result.{err_from_is_err_and}
-use Rattle.leveldb_store.specs.Listing.{AreFilesIn}
+use Rattle.leveldb_store.specs.Openings.Listing.{AreFilesIn}
 use Rattle.leveldb_repair.proofs.RepairFindLemmas.{all_found, leaves_files, no_logs, no_tables, none_found, not_listed}
 use Rattle.leveldb_repair.proofs.RepairStoreLemmas.{leaves_then}
 use Rattle.leveldb_repair.proofs.repair_store.find.find.Goals as goal

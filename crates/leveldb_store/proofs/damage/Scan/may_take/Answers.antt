@@ -1,5 +1,5 @@
 use Rattle.std.proofs.Common.{inl}
-use Rattle.leveldb_store.proofs.LogDamageLemmas.{last_continues}
+use Rattle.leveldb_store.proofs.Logs.LogDamageLemmas.{last_continues}
 use Rattle.leveldb_store.proofs.damage.Scan.may_take.Goals as goal
 
 pub returns-then-self-2 : goal.returns-then-self-2

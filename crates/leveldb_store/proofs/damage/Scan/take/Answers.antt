@@ -1,7 +1,7 @@
 use Rattle.std.proofs.Common.{◌≡◌, ◌∙◌, Bool, false, inl, inr, not, subst, sym, true, ⊎_elim}
 use Rattle.std.specs.Prelude.{IsTrue}
-use Rattle.leveldb_store.specs.Damage.{HasBegun, parts_after}
-use Rattle.leveldb_store.proofs.LogDamageLemmas.{begun_on}
+use Rattle.leveldb_store.specs.Logs.Damage.{HasBegun, parts_after}
+use Rattle.leveldb_store.proofs.Logs.LogDamageLemmas.{begun_on}
 use Rattle.leveldb_store.proofs.damage.Scan.take.Goals.{then-self+then-self-2, then-self+else-self-2, else-self}
 use Rattle.leveldb_store.proofs.damage.Scan.take.Goals as goal
 

@@ -2,7 +2,7 @@ use Rattle.std.proofs.Common.{Err, subst}
 use Rattle.std.proofs.lemmas.Result.{err_from_is_err_and}
 use Rattle.leveldb_env.proofs.WholeFilesLemmas.{found_ok}
 use Rattle.leveldb_env.specs.WholeFiles.{IsFoundOr}
-use Rattle.leveldb_store.proofs.ReadBatchLemmas.{reads_clean, reads_more, reads_no_batch, reads_past, reads_stopped, reads_torn, reads_wrong}
+use Rattle.leveldb_store.proofs.Logs.ReadBatchLemmas.{reads_clean, reads_more, reads_no_batch, reads_past, reads_stopped, reads_torn, reads_wrong}
 use Rattle.leveldb_store.proofs.log_replay.LogReplay.next_batch.Goals as goal
 
 pub returns-in_err-found : goal.returns-in_err-found

@@ -2,8 +2,8 @@ use Rattle.std.proofs.Common.{Err, subst}
 use Rattle.std.proofs.lemmas.Result.{err_from_is_err_and}
 use Rattle.leveldb_env.proofs.WholeFilesLemmas.{found_ok}
 use Rattle.leveldb_env.specs.WholeFiles.{IsFoundOr}
-use Rattle.leveldb_store.proofs.NextFoundLemmas.{finds_bad, finds_clean, finds_more, finds_no_batch, finds_no_memory, finds_past, finds_stopped, has_numbers}
-use Rattle.leveldb_store.proofs.ReadBatchLemmas.{reads_clean, reads_more, reads_torn, reads_wrong}
+use Rattle.leveldb_store.proofs.Logs.NextFoundLemmas.{finds_bad, finds_clean, finds_more, finds_no_batch, finds_no_memory, finds_past, finds_stopped, has_numbers}
+use Rattle.leveldb_store.proofs.Logs.ReadBatchLemmas.{reads_clean, reads_more, reads_torn, reads_wrong}
 use Rattle.leveldb_store.proofs.log_replay.LogReplay.next_found.Goals as goal
 
 pub returns-in_err-found : goal.returns-in_err-found

@@ -1,7 +1,7 @@
 use Rattle.std.proofs.Common.{subst}
 use Rattle.leveldb_env.specs.Env.{HasCause}
 use Rattle.leveldb_env.specs.WholeFiles.{IsLost}
-use Rattle.leveldb_store.proofs.NextFoundLemmas.{file_is_log}
+use Rattle.leveldb_store.proofs.Logs.NextFoundLemmas.{file_is_log}
 use Rattle.leveldb_store.proofs.log_replay.LogReplay.open.Goals as goal
 
 pub returns-clause-opens : goal.returns-clause-opens

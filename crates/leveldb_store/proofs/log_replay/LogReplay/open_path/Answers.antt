@@ -2,7 +2,7 @@ use Rattle.std.specs.Prelude.{IfOk, IfSome, IsSome, IsTrue, OnOk}
 use Rattle.std.proofs.Common.{◌≡◌, Ok, arith, length, refl, subst}
 use Rattle.leveldb_env.specs.Env.{bytes_of}
 use Rattle.leveldb_env.proofs.WholeFilesLemmas.{found_ok}
-use Rattle.leveldb_store.proofs.LogReplayLemmas.{has_read_none, sized_there}
+use Rattle.leveldb_store.proofs.Logs.LogReplayLemmas.{has_read_none, sized_there}
 use Rattle.leveldb_store.proofs.log_replay.LogReplay.open_path.Goals as goal
 
 pub returns-clause-opens : goal.returns-clause-opens

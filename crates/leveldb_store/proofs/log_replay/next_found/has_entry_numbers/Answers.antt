@@ -1,7 +1,7 @@
 use Rattle.std.proofs.Common.{◌<◌, ◌≤◌, ◌+◌, ⊎_elim, arith, length}
 use Rattle.std.proofs.lemmas.Bool.{cases_lt, le-leb, leb-true}
 use Rattle.leveldb_base.specs.KeyTypes.{greatest_sequence}
-use Rattle.leveldb_store.proofs.ReplayLogLemmas.{fits_all, fits_not}
+use Rattle.leveldb_store.proofs.Logs.ReplayLogLemmas.{fits_all, fits_not}
 use Rattle.leveldb_store.proofs.log_replay.next_found.has_entry_numbers.Goals as goal
 
 pub returns-then-first-le-MAX_SEQUENCE_NUMBER : goal.returns-then-first-le-MAX_SEQUENCE_NUMBER

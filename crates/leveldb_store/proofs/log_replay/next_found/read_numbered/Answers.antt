@@ -1,4 +1,4 @@
-use Rattle.leveldb_store.proofs.NextFoundLemmas.{tells_numbered}
+use Rattle.leveldb_store.proofs.Logs.NextFoundLemmas.{tells_numbered}
 use Rattle.leveldb_store.proofs.log_replay.next_found.read_numbered.Goals as goal
 
 pub returns-in-Ok-clause-ok : goal.returns-in-Ok-clause-ok

@@ -3,8 +3,8 @@ use Rattle.std.proofs.lemmas.Result.{err_from_is_err_and}
 use Rattle.leveldb_base.proofs.HistoryLemmas.{exact_order}
 use Rattle.leveldb_base.specs.Entries.{entry_of_pair}
 use Rattle.leveldb_base.specs.Types.{Pair}
-use Rattle.leveldb_store.specs.Merging.{last_entry}
-use Rattle.leveldb_store.proofs.MergingLemmas.{have_same, in_place_pushed, misplaced, not_among, not_following, not_put, ok_map, taken_gone, taken_put, untagged}
+use Rattle.leveldb_store.specs.Compactions.Merging.{last_entry}
+use Rattle.leveldb_store.proofs.Compactions.MergingLemmas.{have_same, in_place_pushed, misplaced, not_among, not_following, not_put, ok_map, taken_gone, taken_put, untagged}
 use Rattle.leveldb_store.proofs.merge_tables.Merging.take.Goals as goal
 
 -- the key has no tag

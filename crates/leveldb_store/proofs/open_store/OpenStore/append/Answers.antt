@@ -1,8 +1,8 @@
 use Rattle.std.proofs.Common.{◌≡◌, ◌∙◌, List, ℕ, ap, subst, sym}
 use Rattle.leveldb_mem.specs.Log.LogFile.{AppendsRecord}
-use Rattle.leveldb_version.proofs.BatchMatchesLemmas.{batch_some}
-use Rattle.leveldb_version.specs.Paths.{log_path}
-use Rattle.leveldb_store.proofs.WriteLemmas.{appends_to_log}
+use Rattle.leveldb_files.proofs.Histories.BatchMatchesLemmas.{batch_some}
+use Rattle.leveldb_files.specs.Stores.Paths.{log_path}
+use Rattle.leveldb_store.proofs.Writing.WriteLemmas.{appends_to_log}
 use Rattle.leveldb_store.proofs.open_store.OpenStore.append.Goals as goal
 
 pub append-requires : goal.append-requires

@@ -1,11 +1,11 @@
 use Rattle.std.specs.Prelude.{◌≢◌, IsTrue, string_bytes}
 use Rattle.std.proofs.Common.{◌≡◌, ◌∙◌, ap, sym, subst}
 use Rattle.leveldb_base.specs.History.{AreUpTo}
-use Rattle.leveldb_version.proofs.CurrentVersionLemmas.{charged_cmp}
-use Rattle.leveldb_version.specs.CurrentVersion.{VersionsValue}
-use Rattle.leveldb_version.specs.VersionSetValue.{VersionSetValue, unmade}
-use Rattle.leveldb_store.proofs.CurrentVersionLemmas.{charged_store}
-use Rattle.leveldb_store.specs.OpenStore.{AreInLevels, AreNumbersGiven, HasOwnManifest}
+use Rattle.leveldb_version.proofs.Sets.CurrentVersionLemmas.{charged_cmp}
+use Rattle.leveldb_version.specs.Sets.CurrentVersion.{VersionsValue}
+use Rattle.leveldb_version.specs.Sets.VersionSetValue.{VersionSetValue, unmade}
+use Rattle.leveldb_store.proofs.Keeping.CurrentVersionLemmas.{charged_store}
+use Rattle.leveldb_store.specs.Keeping.OpenStore.{AreInLevels, AreNumbersGiven, HasOwnManifest}
 use Rattle.leveldb_store.proofs.open_store.OpenStore.charge.Goals as goal
 
 pub invariant_of-self : goal.invariant_of-self

@@ -8,14 +8,14 @@ use Rattle.leveldb_base.specs.declared.cmp.Cmp.{Ghosts as CmpGhosts}
 use Rattle.leveldb_base.specs.declared.types.LdbIterator.{Ghosts as IteratorGhosts}
 use Rattle.leveldb_iter.specs.declared.in_memory.InMemory.{InMemory}
 use Rattle.leveldb_mem.specs.MemTable.{Kept, MemTableState}
-use Rattle.leveldb_version.specs.Batches.{Each}
-use Rattle.leveldb_version.specs.VersionIters.{AreVersionIters}
+use Rattle.leveldb_files.specs.Stores.Batches.{Each}
+use Rattle.leveldb_version.specs.Walks.VersionIters.{AreVersionIters}
 use Rattle.leveldb_version.specs.declared.version_iter.VersionIter.{VersionIter}
-use Rattle.leveldb_store.specs.OpenStore.{OpenStoreValue}
-use Rattle.leveldb_store.specs.View.{AreChildrenOf, IsOverMemory, imm_layers}
+use Rattle.leveldb_store.specs.Keeping.OpenStore.{OpenStoreValue}
+use Rattle.leveldb_store.specs.Reading.View.{AreChildrenOf, IsOverMemory, imm_layers}
 use Rattle.leveldb_store.specs.declared.store_walk.StoreWalk.{StoreWalk}
 use Rattle.leveldb_store.specs.declared.store_walk.StoreWalk.TheVariants.{Memory, Tables}
-use Rattle.leveldb_store.proofs.CurrentVersionLemmas.{current_by}
+use Rattle.leveldb_store.proofs.Keeping.CurrentVersionLemmas.{current_by}
 use Rattle.leveldb_store.proofs.open_store.OpenStore.children.Goals.{in-Some+in_ok-push-2, in_default}
 use Rattle.leveldb_store.proofs.open_store.OpenStore.children.Goals as goal
 

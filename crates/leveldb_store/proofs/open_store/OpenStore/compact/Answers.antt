@@ -4,14 +4,15 @@ use Rattle.std.proofs.lemmas.Result.{err_from_is_err_and}
 use Rattle.std.specs.Cmp.{IsTotalOrder}
 use Rattle.leveldb_base.specs.CmpLaws.{total_order}
 use Rattle.leveldb_base.specs.declared.types.FileMetaData.{FileMetaData}
-use Rattle.leveldb_version.specs.CompactionEdit.{compaction_edit}
-use Rattle.leveldb_version.specs.FullEdit.{files_after}
-use Rattle.leveldb_version.specs.LogEdit.{WritesBytes}
-use Rattle.leveldb_version.specs.Picking.{CompactionValue}
-use Rattle.leveldb_version.specs.VersionEdit.{Edit, LevelFile, NewFile, edit_of, new_file_of}
-use Rattle.leveldb_version.specs.VersionSetValue.{OpenManifest, in_use}
-use Rattle.leveldb_store.proofs.CompactCallLemmas.{compacts_made, compacts_no_more, compacts_none, edit_is, made_levels, made_levels_fit}
-use Rattle.leveldb_store.specs.OpenStore.{AreInLevels, HasOwnManifest, OpenStoreValue}
+use Rattle.leveldb_version.specs.Compactions.CompactionEdit.{compaction_edit}
+use Rattle.leveldb_version.specs.Edits.FullEdit.{files_after}
+use Rattle.leveldb_version.specs.Sets.LogEdit.{WritesBytes}
+use Rattle.leveldb_version.specs.Compactions.Picking.{CompactionValue}
+use Rattle.leveldb_files.specs.Edits.Edit.{Edit, LevelFile, NewFile}
+use Rattle.leveldb_version.specs.Edits.VersionEdit.{edit_of, new_file_of}
+use Rattle.leveldb_version.specs.Sets.VersionSetValue.{OpenManifest, in_use}
+use Rattle.leveldb_store.proofs.Compactions.CompactCallLemmas.{compacts_made, compacts_no_more, compacts_none, edit_is, made_levels, made_levels_fit}
+use Rattle.leveldb_store.specs.Keeping.OpenStore.{AreInLevels, HasOwnManifest, OpenStoreValue}
 use Rattle.leveldb_store.proofs.open_store.OpenStore.compact.Goals as goal
 
 pub returns-in_err-made : goal.returns-in_err-made

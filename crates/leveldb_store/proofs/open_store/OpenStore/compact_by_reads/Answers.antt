@@ -1,11 +1,11 @@
 use Rattle.std.proofs.Common.{inl, refl, subst}
 use Rattle.std.proofs.lemmas.Result.{IfOk-weaker, err_from_is_err_and}
-use Rattle.leveldb_version.specs.Picking.{IsAskedByReads}
-use Rattle.leveldb_store.proofs.AskedCompactionLemmas.{logs_picked, picked_may_be}
-use Rattle.leveldb_store.proofs.CompactedLemmas.{failed_at_once}
-use Rattle.leveldb_store.proofs.CompactsOnceLemmas.{none_compacted}
-use Rattle.leveldb_store.proofs.KeptBytesLemmas.{meanwhile_none}
-use Rattle.leveldb_store.specs.OpenStore.{OpenStoreValue}
+use Rattle.leveldb_version.specs.Compactions.Picking.{IsAskedByReads}
+use Rattle.leveldb_store.proofs.Compactions.AskedCompactionLemmas.{logs_picked, picked_may_be}
+use Rattle.leveldb_store.proofs.Compactions.CompactedLemmas.{failed_at_once}
+use Rattle.leveldb_store.proofs.Compactions.CompactsOnceLemmas.{none_compacted}
+use Rattle.leveldb_store.proofs.Keeping.KeptBytesLemmas.{meanwhile_none}
+use Rattle.leveldb_store.specs.Keeping.OpenStore.{OpenStoreValue}
 use Rattle.leveldb_store.proofs.open_store.OpenStore.compact_by_reads.Goals as goal
 
 pub returns-in_err-picked : goal.returns-in_err-picked

@@ -1,13 +1,13 @@
 use Rattle.std.proofs.Common.{inl, refl, subst}
 use Rattle.std.proofs.lemmas.Result.{err_from_is_err_and}
-use Rattle.leveldb_version.specs.CurrentVersion.{IsCurrent}
-use Rattle.leveldb_version.specs.Picking.{IsAskedFor}
-use Rattle.leveldb_store.proofs.AskedCompactionLemmas.{compacts_if_asked, picked_ends, picked_may_be}
-use Rattle.leveldb_store.proofs.CompactedLemmas.{failed_at_once}
-use Rattle.leveldb_store.proofs.CompactsOnceLemmas.{none_compacted}
-use Rattle.leveldb_store.proofs.CurrentVersionLemmas.{current_by}
-use Rattle.leveldb_store.proofs.KeptBytesLemmas.{meanwhile_none}
-use Rattle.leveldb_store.specs.OpenStore.{OpenStoreValue}
+use Rattle.leveldb_version.specs.Sets.CurrentVersion.{IsCurrent}
+use Rattle.leveldb_version.specs.Compactions.Picking.{IsAskedFor}
+use Rattle.leveldb_store.proofs.Compactions.AskedCompactionLemmas.{compacts_if_asked, picked_ends, picked_may_be}
+use Rattle.leveldb_store.proofs.Compactions.CompactedLemmas.{failed_at_once}
+use Rattle.leveldb_store.proofs.Compactions.CompactsOnceLemmas.{none_compacted}
+use Rattle.leveldb_store.proofs.Keeping.CurrentVersionLemmas.{current_by}
+use Rattle.leveldb_store.proofs.Keeping.KeptBytesLemmas.{meanwhile_none}
+use Rattle.leveldb_store.specs.Keeping.OpenStore.{OpenStoreValue}
 use Rattle.leveldb_store.proofs.open_store.OpenStore.compact_if_asked.Goals as goal
 
 pub returns-in_err-picked : goal.returns-in_err-picked

@@ -1,11 +1,11 @@
 use Rattle.std.proofs.Common.{◌∙◌, [], ap, refl, subst}
 use Rattle.std.proofs.lemmas.Result.{err_from_is_err_and}
-use Rattle.leveldb_store.proofs.CompactLevelLemmas.{above_replaced, keeps_above, keeps_above_then, level_has_fewer}
-use Rattle.leveldb_store.proofs.CompactedLemmas.{compacts_then, nothing_compacted}
-use Rattle.leveldb_store.proofs.CompactsOnceLemmas.{none_compacted}
-use Rattle.leveldb_store.proofs.KeptEntriesLemmas.{in_turn_then}
-use Rattle.leveldb_store.proofs.ReplacedFilesLemmas.{logged_replaces}
-use Rattle.leveldb_store.specs.KeptEntries.{CompactsOnceAtMost}
+use Rattle.leveldb_store.proofs.Compactions.CompactLevelLemmas.{above_replaced, keeps_above, keeps_above_then, level_has_fewer}
+use Rattle.leveldb_store.proofs.Compactions.CompactedLemmas.{compacts_then, nothing_compacted}
+use Rattle.leveldb_store.proofs.Compactions.CompactsOnceLemmas.{none_compacted}
+use Rattle.leveldb_store.proofs.Keeping.KeptEntriesLemmas.{in_turn_then}
+use Rattle.leveldb_store.proofs.Compactions.ReplacedFilesLemmas.{logged_replaces}
+use Rattle.leveldb_store.specs.Keeping.KeptEntries.{CompactsOnceAtMost}
 use Rattle.leveldb_store.proofs.open_store.OpenStore.compact_level.Goals as goal
 
 pub loop-picked-init : goal.loop-picked-init

@@ -3,11 +3,11 @@ use Rattle.std.specs.Prelude.{is_some}
 use Rattle.leveldb_base.specs.contracts.cmp.internal.InternalKeyCmpCmp.TheImpl.{ghosts as key_order}
 use Rattle.leveldb_env.specs.contracts.compressor.CompressorListCompressors.TheImpl.{ghosts as compressors}
 use Rattle.leveldb_env.specs.contracts.filter.internal.InternalFilterPolicyFilterPolicy.TheImpl.{ghosts as key_policy}
-use Rattle.leveldb_version.specs.Summary.{files_of_level}
-use Rattle.leveldb_version.specs.TableCache.{table_options}
-use Rattle.leveldb_store.specs.BuildTable.{choices_of}
-use Rattle.leveldb_store.specs.Compact.{CompactsTables, KeepsLevelsAbove}
-use Rattle.leveldb_store.specs.KeptEntries.{CompactsInTurn}
+use Rattle.leveldb_files.specs.Levels.Summary.{files_of_level}
+use Rattle.leveldb_version.specs.Tables.TableCache.{table_options}
+use Rattle.leveldb_store.specs.Tables.BuildTable.{choices_of}
+use Rattle.leveldb_store.specs.Compactions.Compact.{CompactsTables, KeepsLevelsAbove}
+use Rattle.leveldb_store.specs.Keeping.KeptEntries.{CompactsInTurn}
 use Rattle.leveldb_store.proofs.open_store.OpenStore.compact_level.Given as goal
 
 -- what the compactions so far keep

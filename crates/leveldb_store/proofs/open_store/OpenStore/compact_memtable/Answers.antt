@@ -1,12 +1,12 @@
 use Rattle.std.proofs.Common.{◌≡◌, ◌∙◌, Ok, arith, false, refl, sym, true}
 use Rattle.std.proofs.lemmas.Result.{err_from_is_err_and}
-use Rattle.leveldb_version.specs.TableCache.{files_at}
-use Rattle.leveldb_store.proofs.KeptEntriesLemmas.{entries_of_table, entries_same, entries_then, entries_tidied}
-use Rattle.leveldb_store.proofs.LoggedEditsLemmas.{no_tables, one_table}
-use Rattle.leveldb_store.proofs.NoNewEntriesLemmas.{adds_none, adds_none_removed, steps_add_none}
-use Rattle.leveldb_store.proofs.OpenTablesLemmas.{closes_after, closes_none, no_removal}
-use Rattle.leveldb_store.proofs.ReplayFilesLemmas.{GivesNumbers-refl}
-use Rattle.leveldb_store.proofs.RoomLemmas.{number_tables_made, step_in_order, step_of_none, step_of_table, step_of_tidying, step_then, usable_tables_made}
+use Rattle.leveldb_version.specs.Tables.TableCache.{files_at}
+use Rattle.leveldb_store.proofs.Keeping.KeptEntriesLemmas.{entries_of_table, entries_same, entries_then, entries_tidied}
+use Rattle.leveldb_store.proofs.Keeping.LoggedEditsLemmas.{no_tables, one_table}
+use Rattle.leveldb_store.proofs.Keeping.NoNewEntriesLemmas.{adds_none, adds_none_removed, steps_add_none}
+use Rattle.leveldb_store.proofs.Keeping.OpenTablesLemmas.{closes_after, closes_none, no_removal}
+use Rattle.leveldb_store.proofs.Logs.ReplayFilesLemmas.{GivesNumbers-refl}
+use Rattle.leveldb_store.proofs.Writing.RoomLemmas.{number_tables_made, step_in_order, step_of_none, step_of_table, step_of_tidying, step_then, usable_tables_made}
 use Rattle.leveldb_store.proofs.open_store.OpenStore.compact_memtable.Goals as goal
 
 pub tidy_up-requires : goal.tidy_up-requires

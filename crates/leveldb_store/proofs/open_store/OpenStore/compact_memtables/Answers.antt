@@ -1,10 +1,10 @@
 use Rattle.std.proofs.Common.{Ok}
 use Rattle.std.proofs.lemmas.Result.{err_from_is_err_and}
-use Rattle.leveldb_store.proofs.KeptEntriesLemmas.{entries_switched, entries_then}
-use Rattle.leveldb_store.proofs.LoggedEditsLemmas.{more_tables, two_tables}
-use Rattle.leveldb_store.proofs.NoNewEntriesLemmas.{adds_none_in_order, steps_add_none, switch_adds_none}
-use Rattle.leveldb_store.proofs.OpenTablesLemmas.{closes_after, closes_none, closes_then}
-use Rattle.leveldb_store.proofs.RoomLemmas.{fails_first, step_for, step_switched, step_tables_made, usable_switched}
+use Rattle.leveldb_store.proofs.Keeping.KeptEntriesLemmas.{entries_switched, entries_then}
+use Rattle.leveldb_store.proofs.Keeping.LoggedEditsLemmas.{more_tables, two_tables}
+use Rattle.leveldb_store.proofs.Keeping.NoNewEntriesLemmas.{adds_none_in_order, steps_add_none, switch_adds_none}
+use Rattle.leveldb_store.proofs.Keeping.OpenTablesLemmas.{closes_after, closes_none, closes_then}
+use Rattle.leveldb_store.proofs.Writing.RoomLemmas.{fails_first, step_for, step_switched, step_tables_made, usable_switched}
 use Rattle.leveldb_store.proofs.open_store.OpenStore.compact_memtables.Goals as goal
 
 pub returns-in_err-compact_memtable-clause-step : goal.returns-in_err-compact_memtable-clause-step

@@ -1,11 +1,11 @@
 use Rattle.std.proofs.Common.{◌∙◌, ap, refl, rules, subst, sym}
 use Rattle.std.proofs.lemmas.Result.{err_from_is_err_and}
-use Rattle.leveldb_store.proofs.CompactPickedLemmas.{compacted_once, compacted_tidied}
-use Rattle.leveldb_store.proofs.CompactedLemmas.{compacts_then, nothing_compacted}
-use Rattle.leveldb_store.proofs.CompactsOnceLemmas.{compacted_inputs, compacted_none, none_compacted}
-use Rattle.leveldb_store.specs.KeptEntries.{CompactsOnceAtMost}
-use Rattle.leveldb_store.specs.OpenStore.{OpenStoreValue}
-use Rattle.leveldb_store.specs.Room.{TidiesUp}
+use Rattle.leveldb_store.proofs.Compactions.CompactPickedLemmas.{compacted_once, compacted_tidied}
+use Rattle.leveldb_store.proofs.Compactions.CompactedLemmas.{compacts_then, nothing_compacted}
+use Rattle.leveldb_store.proofs.Compactions.CompactsOnceLemmas.{compacted_inputs, compacted_none, none_compacted}
+use Rattle.leveldb_store.specs.Keeping.KeptEntries.{CompactsOnceAtMost}
+use Rattle.leveldb_store.specs.Keeping.OpenStore.{OpenStoreValue}
+use Rattle.leveldb_store.specs.Writing.Room.{TidiesUp}
 use Rattle.leveldb_store.proofs.open_store.OpenStore.compact_picked.Goals as goal
 
 pub returns-in_err-compact-clause-compacts : goal.returns-in_err-compact-clause-compacts

@@ -3,13 +3,13 @@ use Rattle.std.proofs.lemmas.Result.{err_from_is_err_and}
 use Rattle.leveldb_base.specs.CmpLaws.{user_part-internal_key}
 use Rattle.leveldb_base.specs.KeyTypes.{user_part}
 use Rattle.leveldb_base.specs.declared.key_types.ValueType.TheVariants.{TypeValue}
-use Rattle.leveldb_version.specs.Overlap.{named_range}
-use Rattle.leveldb_store.proofs.CompactLevelLemmas.{clear_alike, clear_more}
-use Rattle.leveldb_store.proofs.CompactRangeLemmas.{memory_compacted, range_then}
-use Rattle.leveldb_store.proofs.CompactedLemmas.{failed_at_once}
-use Rattle.leveldb_store.proofs.KeptEntriesLemmas.{memory_compacts, memory_same, memory_in_tables}
-use Rattle.leveldb_store.specs.KeptEntries.{CompactsInTurn, CompactsOnceAtMost}
-use Rattle.leveldb_store.specs.OpenStore.{OpenStoreValue}
+use Rattle.leveldb_files.specs.Levels.Overlap.{named_range}
+use Rattle.leveldb_store.proofs.Compactions.CompactLevelLemmas.{clear_alike, clear_more}
+use Rattle.leveldb_store.proofs.Compactions.CompactRangeLemmas.{memory_compacted, range_then}
+use Rattle.leveldb_store.proofs.Compactions.CompactedLemmas.{failed_at_once}
+use Rattle.leveldb_store.proofs.Keeping.KeptEntriesLemmas.{memory_compacts, memory_same, memory_in_tables}
+use Rattle.leveldb_store.specs.Keeping.KeptEntries.{CompactsInTurn, CompactsOnceAtMost}
+use Rattle.leveldb_store.specs.Keeping.OpenStore.{OpenStoreValue}
 use Rattle.leveldb_store.proofs.open_store.OpenStore.compact_range.Goals as goal
 
 -- ---- before the levels

@@ -1,8 +1,8 @@
 use Rattle.std.proofs.Common.{◌≡◌, ◌∙◌, ap, arith, sym}
-use Rattle.leveldb_version.specs.Overlap.{is_overlapped, named_range}
-use Rattle.leveldb_version.specs.Version.{VersionValue, new_files_of}
-use Rattle.leveldb_store.proofs.CompactLevelLemmas.{deepest_above, deepest_here, overlapped_current}
-use Rattle.leveldb_store.proofs.CurrentVersionLemmas.{current_by}
+use Rattle.leveldb_files.specs.Levels.Overlap.{is_overlapped, named_range}
+use Rattle.leveldb_version.specs.Versions.Version.{VersionValue, new_files_of}
+use Rattle.leveldb_store.proofs.Compactions.CompactLevelLemmas.{deepest_above, deepest_here, overlapped_current}
+use Rattle.leveldb_store.proofs.Keeping.CurrentVersionLemmas.{current_by}
 use Rattle.leveldb_store.proofs.open_store.OpenStore.deepest_overlapped.Goals as goal
 use Rattle.leveldb_store.proofs.open_store.OpenStore.deepest_overlapped.Goals.{else-overlap_in_level, then-overlap_in_level}
 

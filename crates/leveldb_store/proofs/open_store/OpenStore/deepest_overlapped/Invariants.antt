@@ -1,6 +1,6 @@
 use Rattle.std.proofs.Common.{◌≡◌, ◌<◌}
-use Rattle.leveldb_version.specs.Overlap.{named_range}
-use Rattle.leveldb_store.proofs.CompactLevelLemmas.{deepest_before}
+use Rattle.leveldb_files.specs.Levels.Overlap.{named_range}
+use Rattle.leveldb_store.proofs.Compactions.CompactLevelLemmas.{deepest_before}
 use Rattle.leveldb_store.proofs.open_store.OpenStore.deepest_overlapped.Given as goal
 
 -- the deepest of the levels before this one

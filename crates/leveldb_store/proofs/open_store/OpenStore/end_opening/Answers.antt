@@ -1,7 +1,7 @@
 -- The store that keeps its files or not is that of the whole end.
 use Rattle.std.proofs.Common.{◌≡◌, ◌∙◌, ap, false, sym, true}
-use Rattle.leveldb_store.proofs.EndsOpeningLemmas.{ends_broken, ends_well}
-use Rattle.leveldb_store.specs.OpenStore.{OpenStoreValue}
+use Rattle.leveldb_store.proofs.Openings.EndsOpeningLemmas.{ends_broken, ends_well}
+use Rattle.leveldb_store.specs.Keeping.OpenStore.{OpenStoreValue}
 use Rattle.leveldb_store.proofs.open_store.OpenStore.end_opening.Goals as goal
 
 pub returns-then-is_broken-clause-ends : goal.returns-then-is_broken-clause-ends

@@ -2,8 +2,8 @@ use Rattle.std.proofs.Common.{◌∙◌, sym, subst}
 use Rattle.std.proofs.lemmas.Result.{err_from_is_err_and}
 use Rattle.leveldb_base.proofs.EntriesLemmas.{absent_copied, absent_is}
 use Rattle.leveldb_base.specs.Entries.{lookup_copied}
-use Rattle.leveldb_store.specs.Read.{FindsInMemory}
-use Rattle.leveldb_store.proofs.ReadLemmas.{got_in_memory, got_in_tables}
+use Rattle.leveldb_store.specs.Reading.Read.{FindsInMemory}
+use Rattle.leveldb_store.proofs.Reading.ReadLemmas.{got_in_memory, got_in_tables}
 use Rattle.leveldb_store.proofs.open_store.OpenStore.get.Goals as goal
 
 pub returns-then-not-is_absent : goal.returns-then-not-is_absent

@@ -1,4 +1,4 @@
-use Rattle.leveldb_store.proofs.RemoveLemmas.{lacks}
+use Rattle.leveldb_store.proofs.Keeping.RemoveLemmas.{lacks}
 use Rattle.leveldb_store.proofs.open_store.OpenStore.is_obsolete.Goals as goal
 
 pub returns-in-Table : goal.returns-in-Table

@@ -1,7 +1,7 @@
 use Rattle.std.proofs.Common.{◌∙◌}
-use Rattle.leveldb_version.specs.Overlap.{file_range}
-use Rattle.leveldb_version.specs.VersionEdit.{new_file_of}
-use Rattle.leveldb_store.proofs.CurrentVersionLemmas.{current_by, current_level}
+use Rattle.leveldb_files.specs.Levels.Overlap.{file_range}
+use Rattle.leveldb_version.specs.Edits.VersionEdit.{new_file_of}
+use Rattle.leveldb_store.proofs.Keeping.CurrentVersionLemmas.{current_by, current_level}
 use Rattle.leveldb_store.proofs.open_store.OpenStore.level_for.Goals as goal
 
 pub returns-clause-level : goal.returns-clause-level

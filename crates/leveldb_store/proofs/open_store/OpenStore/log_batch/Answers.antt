@@ -1,6 +1,6 @@
 use Rattle.std.proofs.lemmas.Result.{err_from_is_err_and}
 use Rattle.leveldb_mem.specs.WriteBatch.{batch_bytes}
-use Rattle.leveldb_store.proofs.LogBatchLemmas.{logs_appended, logs_then_synced, logs_unappended}
+use Rattle.leveldb_store.proofs.Writing.LogBatchLemmas.{logs_appended, logs_then_synced, logs_unappended}
 use Rattle.leveldb_store.proofs.open_store.OpenStore.log_batch.Goals as goal
 
 pub returns-in_err-append-clause-logs : goal.returns-in_err-append-clause-logs

@@ -1,11 +1,12 @@
 use Rattle.std.proofs.Common.{◌≡◌, ◌<◌, [], subst, sym}
 use Rattle.std.specs.Prelude.{All}
 use Rattle.std.proofs.lemmas.List.Elements.{All-cons, All-nil}
-use Rattle.leveldb_version.specs.FullEdit.{files_after}
-use Rattle.leveldb_version.specs.VersionEdit.{Edit, NewFile, edit_of, new_file_of}
-use Rattle.leveldb_version.specs.Writing.{table_edit}
-use Rattle.leveldb_store.specs.OpenStore.{AreInLevels}
-use Rattle.leveldb_store.proofs.Level0TableLemmas.{table_edit_fits, table_edit_made}
+use Rattle.leveldb_version.specs.Edits.FullEdit.{files_after}
+use Rattle.leveldb_files.specs.Edits.Edit.{Edit, NewFile}
+use Rattle.leveldb_version.specs.Edits.VersionEdit.{edit_of, new_file_of}
+use Rattle.leveldb_version.specs.Engines.Writing.{table_edit}
+use Rattle.leveldb_store.specs.Keeping.OpenStore.{AreInLevels}
+use Rattle.leveldb_store.proofs.Writing.Level0TableLemmas.{table_edit_fits, table_edit_made}
 use Rattle.leveldb_store.proofs.open_store.OpenStore.log_table.Goals as goal
 
 pub log_tables-requires-clause-fits : goal.log_tables-requires-clause-fits

@@ -1,13 +1,13 @@
 use Rattle.std.proofs.Common.{◌≡◌, ◌∙◌, None, Ok, Some, ap, false, inl, refl, sym, true}
 use Rattle.std.proofs.lemmas.Result.{IfOk-weaker, err_from_is_err_and}
-use Rattle.leveldb_version.specs.TableCache.{files_at}
-use Rattle.leveldb_store.proofs.KeptEntriesLemmas.{entries_same, entries_switched, entries_then}
-use Rattle.leveldb_store.proofs.LoggedEditsLemmas.{no_tables, two_tables}
-use Rattle.leveldb_store.proofs.NoNewEntriesLemmas.{adds_none, adds_none_in_order, steps_add_none, switch_adds_none}
-use Rattle.leveldb_store.proofs.OpenTablesLemmas.{closes_after, closes_none, closes_then, no_removal}
-use Rattle.leveldb_store.proofs.ReplayFilesLemmas.{GivesNumbers-refl}
-use Rattle.leveldb_store.proofs.RoomLemmas.{fails_first, no_room_made, room_tried, step_for, step_switched, step_tables_made, usable_switched}
-use Rattle.leveldb_store.specs.Room.{but_removal}
+use Rattle.leveldb_version.specs.Tables.TableCache.{files_at}
+use Rattle.leveldb_store.proofs.Keeping.KeptEntriesLemmas.{entries_same, entries_switched, entries_then}
+use Rattle.leveldb_store.proofs.Keeping.LoggedEditsLemmas.{no_tables, two_tables}
+use Rattle.leveldb_store.proofs.Keeping.NoNewEntriesLemmas.{adds_none, adds_none_in_order, steps_add_none, switch_adds_none}
+use Rattle.leveldb_store.proofs.Keeping.OpenTablesLemmas.{closes_after, closes_none, closes_then, no_removal}
+use Rattle.leveldb_store.proofs.Logs.ReplayFilesLemmas.{GivesNumbers-refl}
+use Rattle.leveldb_store.proofs.Writing.RoomLemmas.{fails_first, no_room_made, room_tried, step_for, step_switched, step_tables_made, usable_switched}
+use Rattle.leveldb_store.specs.Writing.Room.{but_removal}
 use Rattle.leveldb_store.proofs.open_store.OpenStore.make_room.Goals as goal
 
 -- ---- room

@@ -1,5 +1,5 @@
 use Rattle.std.proofs.Common.{◌∙◌, rules, sym}
-use Rattle.leveldb_store.proofs.MergeFilesLemmas.{replaced_in}
+use Rattle.leveldb_store.proofs.Compactions.MergeFilesLemmas.{replaced_in}
 use Rattle.leveldb_store.proofs.open_store.OpenStore.merge_by.Goals as goal
 
 pub returns : goal.returns

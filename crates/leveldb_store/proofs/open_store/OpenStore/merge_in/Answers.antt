@@ -2,17 +2,17 @@ use Rattle.std.proofs.Common.{◌∙◌, ◌+◌, ap, refl, subst, sym}
 use Rattle.std.specs.Option.{option_map}
 use Rattle.leveldb_base.proofs.HistoryLemmas.{exact_order}
 use Rattle.leveldb_base.specs.History.{AreUpTo}
-use Rattle.leveldb_version.specs.Search.{AreDisjointLevels}
-use Rattle.leveldb_version.specs.Version.{VersionValue, new_files_of}
-use Rattle.leveldb_version.specs.VersionEdit.{Edit}
-use Rattle.leveldb_version.specs.VersionSetValue.{VersionSetValue}
-use Rattle.leveldb_store.specs.Compact.{IsOfStore}
-use Rattle.leveldb_store.specs.OpenStore.{AreInLevels, HasOwnManifest, OpenStoreValue}
-use Rattle.leveldb_store.proofs.BuildTableLemmas.{built_of_store}
-use Rattle.leveldb_store.proofs.GivenNumbersLemmas.{live_given}
-use Rattle.leveldb_store.proofs.MergeFilesLemmas.{replaced_by_merge, same_merge}
-use Rattle.leveldb_store.proofs.MergedCausesLemmas.{inputs_leave, inputs_reference, merge_of_store}
-use Rattle.leveldb_store.proofs.MergedInputsLemmas.{version_apart, version_order}
+use Rattle.leveldb_version.specs.Versions.Search.{AreDisjointLevels}
+use Rattle.leveldb_version.specs.Versions.Version.{VersionValue, new_files_of}
+use Rattle.leveldb_files.specs.Edits.Edit.{Edit}
+use Rattle.leveldb_version.specs.Sets.VersionSetValue.{VersionSetValue}
+use Rattle.leveldb_store.specs.Compactions.Compact.{IsOfStore}
+use Rattle.leveldb_store.specs.Keeping.OpenStore.{AreInLevels, HasOwnManifest, OpenStoreValue}
+use Rattle.leveldb_store.proofs.Tables.BuildTableLemmas.{built_of_store}
+use Rattle.leveldb_store.proofs.Keeping.GivenNumbersLemmas.{live_given}
+use Rattle.leveldb_store.proofs.Compactions.MergeFilesLemmas.{replaced_by_merge, same_merge}
+use Rattle.leveldb_store.proofs.Compactions.MergedCausesLemmas.{inputs_leave, inputs_reference, merge_of_store}
+use Rattle.leveldb_store.proofs.Compactions.MergedInputsLemmas.{version_apart, version_order}
 use Rattle.leveldb_store.proofs.open_store.OpenStore.merge_in.Goals as goal
 
 pub invariant_of-levels : goal.invariant_of-levels

@@ -4,7 +4,7 @@ use Rattle.leveldb_base.proofs.LayersLemmas.{finds_first}
 use Rattle.leveldb_base.specs.Entries.{FindsNewest, lookup_copied}
 use Rattle.leveldb_base.specs.History.{Entry}
 use Rattle.leveldb_base.specs.declared.types.Lookup.TheVariants.{Absent}
-use Rattle.leveldb_store.specs.Written.{imm_entries}
+use Rattle.leveldb_store.specs.Keeping.Written.{imm_entries}
 use Rattle.leveldb_store.proofs.open_store.OpenStore.newest_in_memory.Goals as goal
 
 pub returns-then-not-is_absent : goal.returns-then-not-is_absent

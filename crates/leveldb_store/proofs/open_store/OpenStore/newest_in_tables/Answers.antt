@@ -2,9 +2,9 @@ use Rattle.std.proofs.Common.{◌≡◌, ◌∙◌, ap, min}
 use Rattle.std.proofs.lemmas.Result.{err_from_is_err_and}
 use Rattle.leveldb_base.specs.KeyTypes.{greatest_sequence, internal_key}
 use Rattle.leveldb_base.specs.declared.key_types.ValueType.TheVariants.{TypeValue}
-use Rattle.leveldb_store.specs.Read.{sought_key}
-use Rattle.leveldb_store.proofs.CurrentVersionLemmas.{current_by}
-use Rattle.leveldb_store.proofs.ReadLemmas.{not_searched}
+use Rattle.leveldb_store.specs.Reading.Read.{sought_key}
+use Rattle.leveldb_store.proofs.Keeping.CurrentVersionLemmas.{current_by}
+use Rattle.leveldb_store.proofs.Reading.ReadLemmas.{not_searched}
 use Rattle.leveldb_store.proofs.open_store.OpenStore.newest_in_tables.Goals as goal
 
 pub returns-in_err-sought-clause-searches : goal.returns-in_err-sought-clause-searches

@@ -1,5 +1,5 @@
 use Rattle.std.proofs.lemmas.Result.{err_from_is_err_and}
-use Rattle.leveldb_store.proofs.OpeningOpenLemmas.{recover_caused, recover_refused, recovered_bytes, recovered_caused, recovered_then}
+use Rattle.leveldb_store.proofs.Openings.OpeningOpenLemmas.{recover_caused, recover_refused, recovered_bytes, recovered_caused, recovered_then}
 use Rattle.leveldb_store.proofs.open_store.OpenStore.open.Goals as goal
 
 pub returns-in_err-set : goal.returns-in_err-set

@@ -2,9 +2,9 @@ use Rattle.std.proofs.Common.{◌∙◌, ℕ, ap, arith, inl, refl, sym}
 use Rattle.std.specs.Prelude.{max}
 use Rattle.std.proofs.lemmas.Result.{err_from_is_err_and}
 use Rattle.leveldb_mem.specs.Log.LogFile.{LogFileState}
-use Rattle.leveldb_version.specs.Paths.{log_path}
-use Rattle.leveldb_store.proofs.ReadAloneLemmas.{cause_to_read, given_then, levels_then, made_then, memory_to_read, opened_to_read, own_then, path_then, read_up_to, refused_to_read, why_no_logs, why_no_set}
-use Rattle.leveldb_store.proofs.RecoverSetLemmas.{still_thrice, still_twice}
+use Rattle.leveldb_files.specs.Stores.Paths.{log_path}
+use Rattle.leveldb_store.proofs.Openings.ReadAloneLemmas.{cause_to_read, given_then, levels_then, made_then, memory_to_read, opened_to_read, own_then, path_then, read_up_to, refused_to_read, why_no_logs, why_no_set}
+use Rattle.leveldb_store.proofs.Openings.RecoverSetLemmas.{still_thrice, still_twice}
 use Rattle.leveldb_store.proofs.open_store.OpenStore.open_to_read.Goals as goal
 
 pub returns-in_err-check_current : goal.returns-in_err-check_current

@@ -1,10 +1,10 @@
 use Rattle.std.proofs.Common.{◌≡◌, ◌∙◌, ap, length, sym}
 use Rattle.leveldb_base.specs.KeyTypes.{user_part}
-use Rattle.leveldb_version.specs.Overlap.{named_range}
-use Rattle.leveldb_version.specs.Summary.{files_of_level}
-use Rattle.leveldb_version.specs.Version.{VersionValue, new_files_of}
-use Rattle.leveldb_store.proofs.CompactLevelLemmas.{empty_level_clear, picked_some}
-use Rattle.leveldb_store.proofs.CurrentVersionLemmas.{current_by}
+use Rattle.leveldb_files.specs.Levels.Overlap.{named_range}
+use Rattle.leveldb_files.specs.Levels.Summary.{files_of_level}
+use Rattle.leveldb_version.specs.Versions.Version.{VersionValue, new_files_of}
+use Rattle.leveldb_store.proofs.Compactions.CompactLevelLemmas.{empty_level_clear, picked_some}
+use Rattle.leveldb_store.proofs.Keeping.CurrentVersionLemmas.{current_by}
 use Rattle.leveldb_store.proofs.open_store.OpenStore.picked_in_level.Goals as goal
 
 pub returns-then-num_level_files-eq0-clause-some : goal.returns-then-num_level_files-eq0-clause-some

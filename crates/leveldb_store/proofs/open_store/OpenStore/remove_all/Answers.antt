@@ -1,9 +1,9 @@
 use Rattle.std.proofs.Common.{◌≡◌, arith, map, refl, subst, take}
 use Rattle.std.specs.Prelude.{string_bytes}
 use Rattle.std.proofs.lemmas.List.{length-map, take_all}
-use Rattle.leveldb_store.specs.Switch.{RemovesNames}
-use Rattle.leveldb_store.proofs.OpenTablesLemmas.{no_removal, removal_then}
-use Rattle.leveldb_store.proofs.RemoveLemmas.{names_step, no_names}
+use Rattle.leveldb_store.specs.Writing.Switch.{RemovesNames}
+use Rattle.leveldb_store.proofs.Keeping.OpenTablesLemmas.{no_removal, removal_then}
+use Rattle.leveldb_store.proofs.Keeping.RemoveLemmas.{names_step, no_names}
 use Rattle.leveldb_store.proofs.open_store.OpenStore.remove_all.Goals as goal
 
 pub loop-name-init : goal.loop-name-init

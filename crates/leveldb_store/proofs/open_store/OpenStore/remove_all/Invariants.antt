@@ -1,8 +1,8 @@
 use Rattle.std.proofs.Common.{◌≡◌, List, drop, map, take, ℕ}
 use Rattle.std.specs.Prelude.{Contains, IsTrue, string_bytes}
 use Rattle.leveldb_env.specs.Env.{in_folder}
-use Rattle.leveldb_store.specs.OpenTables.{ClosesObsolete}
-use Rattle.leveldb_store.specs.Switch.{RemovesNames}
+use Rattle.leveldb_store.specs.Keeping.OpenTables.{ClosesObsolete}
+use Rattle.leveldb_store.specs.Writing.Switch.{RemovesNames}
 use Rattle.leveldb_store.proofs.open_store.OpenStore.remove_all.Given as goal
 
 -- the names so far, and that the files of the others are as they were; and which tables are closed

@@ -3,9 +3,9 @@ use Rattle.std.specs.Prelude.{◌≢◌, IsTrue, string_bytes}
 use Rattle.std.proofs.lemmas.Result.{err_from_is_err_and}
 use Rattle.leveldb_env.proofs.EnvLemmas.{Run-call, Run-mono}
 use Rattle.leveldb_env.specs.Env.{ListsChildren}
-use Rattle.leveldb_version.specs.VersionSetValue.{broken}
-use Rattle.leveldb_store.proofs.OpenTablesLemmas.{no_removal, removal_then}
-use Rattle.leveldb_store.proofs.RemoveLemmas.{RemovesObsolete-after, RemovesObsolete-kept, RemovesObsolete-unlisted, none_removed, removal_keeps, removing_after}
+use Rattle.leveldb_version.specs.Sets.VersionSetValue.{broken}
+use Rattle.leveldb_store.proofs.Keeping.OpenTablesLemmas.{no_removal, removal_then}
+use Rattle.leveldb_store.proofs.Keeping.RemoveLemmas.{RemovesObsolete-after, RemovesObsolete-kept, RemovesObsolete-unlisted, none_removed, removal_keeps, removing_after}
 use Rattle.leveldb_store.proofs.open_store.OpenStore.remove_obsolete.Goals as goal
 
 pub returns-in_err-names-clause-keeps : goal.returns-in_err-names-clause-keeps

@@ -1,11 +1,11 @@
 use Rattle.std.proofs.Common.{◌≡◌, ◌∙◌, ap, false, inr, refl, subst, sym, true}
 use Rattle.leveldb_env.proofs.EnvLemmas.{Run-call, SameBut-deleted}
-use Rattle.leveldb_store.proofs.OpenTablesLemmas.{other_removed, table_removed}
-use Rattle.leveldb_store.proofs.RemoveLemmas.{not_obsolete_name}
+use Rattle.leveldb_store.proofs.Keeping.OpenTablesLemmas.{other_removed, table_removed}
+use Rattle.leveldb_store.proofs.Keeping.RemoveLemmas.{not_obsolete_name}
 use Rattle.std.specs.Prelude.{IsTrue}
 use Rattle.leveldb_env.specs.Env.{SameBut, in_folder}
-use Rattle.leveldb_version.specs.TableCache.{files_at}
-use Rattle.leveldb_version.specs.Writing.{IsObsolete}
+use Rattle.leveldb_version.specs.Tables.TableCache.{files_at}
+use Rattle.leveldb_version.specs.Engines.Writing.{IsObsolete}
 use Rattle.leveldb_store.proofs.open_store.OpenStore.remove_one.Goals.{else-is_table, then-is_table}
 use Rattle.leveldb_store.proofs.open_store.OpenStore.remove_one.Goals as goal
 

@@ -1,11 +1,11 @@
 use Rattle.std.proofs.Common.{◌≡◌, ◌∷◌, ◌++◌, ◌∙◌, [], ap, rules, subst, sym}
 use Rattle.leveldb_base.proofs.HistoryLemmas.{exact_order}
-use Rattle.leveldb_version.specs.CurrentVersion.{IsCurrent}
-use Rattle.leveldb_store.specs.Compact.{IsMovedAlone}
-use Rattle.leveldb_store.specs.OpenStore.{AreInLevels, AreNumbersGiven}
-use Rattle.leveldb_store.proofs.CurrentVersionLemmas.{current_by}
-use Rattle.leveldb_store.proofs.MergedInputsLemmas.{of_store}
-use Rattle.leveldb_store.proofs.MovedFileLemmas.{replaced_by_move}
+use Rattle.leveldb_version.specs.Sets.CurrentVersion.{IsCurrent}
+use Rattle.leveldb_store.specs.Compactions.Compact.{IsMovedAlone}
+use Rattle.leveldb_store.specs.Keeping.OpenStore.{AreInLevels, AreNumbersGiven}
+use Rattle.leveldb_store.proofs.Keeping.CurrentVersionLemmas.{current_by}
+use Rattle.leveldb_store.proofs.Compactions.MergedInputsLemmas.{of_store}
+use Rattle.leveldb_store.proofs.Compactions.MovedFileLemmas.{replaced_by_move}
 use Rattle.leveldb_store.proofs.open_store.OpenStore.replacements.Goals as goal
 
 pub returns-in-Some : goal.returns-in-Some

@@ -1,9 +1,9 @@
 -- The levels of the version are apart, as those of the live files are.
 use Rattle.std.proofs.Common.{◌≡◌, ap, subst, sym}
-use Rattle.leveldb_version.specs.Sampling.{ChargesForSample}
-use Rattle.leveldb_version.specs.Search.{AreDisjointLevels}
-use Rattle.leveldb_version.specs.Version.{VersionValue, new_files_of}
-use Rattle.leveldb_store.proofs.LevelsApartLemmas.{permuted_apart}
+use Rattle.leveldb_version.specs.Versions.Sampling.{ChargesForSample}
+use Rattle.leveldb_version.specs.Versions.Search.{AreDisjointLevels}
+use Rattle.leveldb_version.specs.Versions.Version.{VersionValue, new_files_of}
+use Rattle.leveldb_store.proofs.Keeping.LevelsApartLemmas.{permuted_apart}
 use Rattle.leveldb_store.proofs.open_store.OpenStore.sampled.Goals as goal
 
 pub returns : goal.returns

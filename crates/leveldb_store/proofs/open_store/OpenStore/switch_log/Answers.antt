@@ -5,17 +5,17 @@ use Rattle.leveldb_env.proofs.AppendedLemmas.{emptied_bytes, synced_bytes}
 use Rattle.leveldb_base.specs.History.{AreUpTo}
 use Rattle.leveldb_env.specs.Env.{BeforeOrAfter, ChangesFiles, emptied}
 use Rattle.leveldb_mem.specs.Log.LogFile.{LogFileState}
-use Rattle.leveldb_version.specs.Paths.{log_path}
-use Rattle.leveldb_version.specs.CurrentVersion.{VersionsValue}
-use Rattle.leveldb_version.specs.VersionEdit.{Edit}
-use Rattle.leveldb_version.specs.VersionSetValue.{VersionSetValue}
-use Rattle.leveldb_store.proofs.GivenNumbersLemmas.{live_given}
-use Rattle.leveldb_store.specs.OpenStore.{AreInLevels, HasOwnManifest}
-use Rattle.leveldb_store.specs.Write.{SyncsLog}
-use Rattle.leveldb_store.specs.Written.{KeepsStore, SparesRest}
-use Rattle.leveldb_store.proofs.SwitchLemmas.{after_giving, keeps_given, keeps_switched, keeps_unmade, spared_by_sync, switched, sync_made, unmade, unsynced, unsynced_keeps}
-use Rattle.leveldb_store.proofs.SoundLemmas.{call_goes_on, given_unbroken, goes_on_then, nothing_goes_on, sound_ok, sound_unbroken, sound_unsynced}
-use Rattle.leveldb_store.specs.SoundCall.{IsSoundCall, any_meaning}
+use Rattle.leveldb_files.specs.Stores.Paths.{log_path}
+use Rattle.leveldb_version.specs.Sets.CurrentVersion.{VersionsValue}
+use Rattle.leveldb_files.specs.Edits.Edit.{Edit}
+use Rattle.leveldb_version.specs.Sets.VersionSetValue.{VersionSetValue}
+use Rattle.leveldb_store.proofs.Keeping.GivenNumbersLemmas.{live_given}
+use Rattle.leveldb_store.specs.Keeping.OpenStore.{AreInLevels, HasOwnManifest}
+use Rattle.leveldb_store.specs.Writing.Write.{SyncsLog}
+use Rattle.leveldb_store.specs.Keeping.Written.{KeepsStore, SparesRest}
+use Rattle.leveldb_store.proofs.Writing.SwitchLemmas.{after_giving, keeps_given, keeps_switched, keeps_unmade, spared_by_sync, switched, sync_made, unmade, unsynced, unsynced_keeps}
+use Rattle.leveldb_store.proofs.Keeping.SoundLemmas.{call_goes_on, given_unbroken, goes_on_then, nothing_goes_on, sound_ok, sound_unbroken, sound_unsynced}
+use Rattle.leveldb_store.specs.Keeping.SoundCall.{IsSoundCall, any_meaning}
 use Rattle.leveldb_store.proofs.open_store.OpenStore.switch_log.Goals as goal
 
 pub returns-in_err-path-clause-keeps : goal.returns-in_err-path-clause-keeps

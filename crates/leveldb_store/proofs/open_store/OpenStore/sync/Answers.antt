@@ -1,10 +1,10 @@
 use Rattle.std.proofs.Common.{◌≡◌, ◌∙◌, List, ℕ, ap, subst, sym}
 use Rattle.leveldb_mem.specs.Log.LogFile.{SyncsRecords}
-use Rattle.leveldb_version.specs.Paths.{log_path}
-use Rattle.leveldb_store.proofs.SwitchLemmas.{sync_spares}
-use Rattle.leveldb_store.proofs.SoundWriteLemmas.{sync_sound}
-use Rattle.leveldb_store.proofs.SyncBatchLemmas.{syncs_batches}
-use Rattle.leveldb_store.proofs.WriteLemmas.{sync_breaks, syncs_log}
+use Rattle.leveldb_files.specs.Stores.Paths.{log_path}
+use Rattle.leveldb_store.proofs.Writing.SwitchLemmas.{sync_spares}
+use Rattle.leveldb_store.proofs.Keeping.SoundWriteLemmas.{sync_sound}
+use Rattle.leveldb_store.proofs.Writing.SyncBatchLemmas.{syncs_batches}
+use Rattle.leveldb_store.proofs.Writing.WriteLemmas.{sync_breaks, syncs_log}
 use Rattle.leveldb_store.proofs.open_store.OpenStore.sync.Goals as goal
 
 pub invariant_of-self : goal.invariant_of-self

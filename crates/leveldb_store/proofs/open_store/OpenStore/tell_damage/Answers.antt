@@ -2,8 +2,8 @@ use Rattle.std.proofs.Common.{◌≡◌, ◌∙◌, ap, map, subst, sym}
 use Rattle.std.specs.Prelude.{string_bytes}
 use Rattle.leveldb_env.proofs.EnvLemmas.{Run-call}
 use Rattle.leveldb_env.specs.Env.{Files, ListsChildren}
-use Rattle.leveldb_store.specs.Damage.{IsDamagedFile}
-use Rattle.leveldb_store.proofs.DamageLemmas.{listed_damaged}
+use Rattle.leveldb_store.specs.Logs.Damage.{IsDamagedFile}
+use Rattle.leveldb_store.proofs.Keeping.DamageLemmas.{listed_damaged}
 use Rattle.leveldb_store.proofs.open_store.OpenStore.tell_damage.Goals as goal
 
 pub returns-clause-damaged : goal.returns-clause-damaged

@@ -1,7 +1,7 @@
 use Rattle.std.proofs.Common.{◌≡◌, false, refl, rules, true}
 use Rattle.leveldb_env.specs.Env.{in_folder}
-use Rattle.leveldb_store.proofs.DamageLemmas.{not_aside}
-use Rattle.leveldb_store.proofs.WholeLogLemmas.{clean_undamaged}
+use Rattle.leveldb_store.proofs.Keeping.DamageLemmas.{not_aside}
+use Rattle.leveldb_store.proofs.Logs.WholeLogLemmas.{clean_undamaged}
 use Rattle.leveldb_store.proofs.open_store.OpenStore.tell_damage_at.Goals as goal
 
 pub returns-then-not-is_left_aside-clause-damaged :

@@ -3,8 +3,8 @@ use Rattle.std.specs.Prelude.{Contains, string_bytes}
 use Rattle.std.proofs.lemmas.List.{length-map, take_all}
 use Rattle.leveldb_env.specs.Env.{Files}
 use Rattle.leveldb_table.proofs.TableBlockLemmas.{KeepsDisk-refl, KeepsDisk-trans, same_files}
-use Rattle.leveldb_store.specs.Damage.{IsDamagedFile}
-use Rattle.leveldb_store.proofs.DamageLemmas.{damaged_more, true_after, true_before}
+use Rattle.leveldb_store.specs.Logs.Damage.{IsDamagedFile}
+use Rattle.leveldb_store.proofs.Keeping.DamageLemmas.{damaged_more, true_after, true_before}
 use Rattle.leveldb_store.proofs.open_store.OpenStore.tell_damage_of.Goals as goal
 
 pub loop-name-init : goal.loop-name-init

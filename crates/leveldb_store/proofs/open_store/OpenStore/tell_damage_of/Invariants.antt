@@ -1,7 +1,7 @@
 use Rattle.std.proofs.Common.{◌≡◌, ◌≤◌, ℕ, List, map, take}
 use Rattle.std.specs.Prelude.{Contains, IsTrue, is_some, string_bytes}
 use Rattle.leveldb_table.specs.TableBlock.{KeepsDisk}
-use Rattle.leveldb_store.specs.Damage.{IsDamagedFile}
+use Rattle.leveldb_store.specs.Logs.Damage.{IsDamagedFile}
 use Rattle.leveldb_store.proofs.open_store.OpenStore.tell_damage_of.Given as goal
 
 abbrev pub invariant-loop-name : goal.invariant-loop-name

@@ -2,9 +2,9 @@ use Rattle.std.proofs.Common.{◌≡◌, [], None, ap, min}
 use Rattle.std.specs.declared.cmp.Ordering.TheVariants.{Less}
 use Rattle.leveldb_base.proofs.HistoryLemmas.{exact_order}
 use Rattle.leveldb_base.specs.KeyTypes.{greatest_sequence}
-use Rattle.leveldb_store.proofs.ViewHistoryLemmas.{merged_counts, view_counts}
-use Rattle.leveldb_store.proofs.ViewReadsLemmas.{child_counts, view_reads}
-use Rattle.leveldb_store.proofs.ViewStoreLemmas.{keys_of, views_store}
+use Rattle.leveldb_store.proofs.Reading.ViewHistoryLemmas.{merged_counts, view_counts}
+use Rattle.leveldb_store.proofs.Reading.ViewReadsLemmas.{child_counts, view_reads}
+use Rattle.leveldb_store.proofs.Reading.ViewStoreLemmas.{keys_of, views_store}
 use Rattle.leveldb_store.proofs.open_store.OpenStore.view.Goals as goal
 
 pub returns-clause-views : goal.returns-clause-views

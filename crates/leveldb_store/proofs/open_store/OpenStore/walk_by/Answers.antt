@@ -1,5 +1,5 @@
 use Rattle.std.proofs.Common.{◌≡◌, ◌∙◌, rules, sym}
-use Rattle.leveldb_store.proofs.ViewLemmas.{walked_by}
+use Rattle.leveldb_store.proofs.Reading.ViewLemmas.{walked_by}
 use Rattle.leveldb_store.proofs.open_store.OpenStore.walk_by.Goals as goal
 
 pub returns : goal.returns

@@ -1,7 +1,7 @@
 use Rattle.std.proofs.Common.{[], arith, refl, sym, append-nil}
 use Rattle.std.proofs.lemmas.Result.{err_from_is_err_and}
 use Rattle.leveldb_table.proofs.TableBlockLemmas.{KeepsDisk-refl}
-use Rattle.leveldb_store.proofs.ViewLemmas.{reference_kept, view_walked}
+use Rattle.leveldb_store.proofs.Reading.ViewLemmas.{reference_kept, view_walked}
 use Rattle.leveldb_store.proofs.open_store.OpenStore.walk_in.Goals as goal
 
 pub returns-in_err-view-clause-walks : goal.returns-in_err-view-clause-walks

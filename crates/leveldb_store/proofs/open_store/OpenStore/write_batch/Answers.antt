@@ -3,8 +3,8 @@ use Rattle.leveldb_base.specs.History.{Item}
 use Rattle.leveldb_mem.proofs.WriteBatchLemmas.{length-batch_bytes}
 use Rattle.std.proofs.lemmas.Result.{err_from_is_err_and}
 use Rattle.leveldb_mem.specs.WriteBatch.{Batch, batch_bytes, max_length}
-use Rattle.leveldb_store.proofs.SoundWriteLemmas.{batch_sound, part_sound, prepare_sound}
-use Rattle.leveldb_store.proofs.WriteBatchLemmas.{can_be_inserted, wrote_all, wrote_nothing, wrote_part}
+use Rattle.leveldb_store.proofs.Keeping.SoundWriteLemmas.{batch_sound, part_sound, prepare_sound}
+use Rattle.leveldb_store.proofs.Writing.WriteBatchLemmas.{can_be_inserted, wrote_all, wrote_nothing, wrote_part}
 use Rattle.leveldb_store.proofs.open_store.OpenStore.write_batch.Goals as goal
 
 -- ---- what is written

@@ -2,23 +2,23 @@ use Rattle.std.proofs.Common.{◌≡◌, ◌≢◌, ◌∙◌, Bool, true, false
 use Rattle.std.specs.Cmp.{IsTotalOrder}
 use Rattle.std.specs.Option.{option_map}
 use Rattle.leveldb_base.specs.Entries.{internal_pair}
-use Rattle.leveldb_version.specs.VersionEdit.{new_file_of}
-use Rattle.leveldb_version.specs.TableCache.{files_at}
-use Rattle.leveldb_store.specs.Written.{imm_entries}
-use Rattle.leveldb_store.specs.WrittenFrom.{AddsNoEntry}
+use Rattle.leveldb_version.specs.Edits.VersionEdit.{new_file_of}
+use Rattle.leveldb_version.specs.Tables.TableCache.{files_at}
+use Rattle.leveldb_store.specs.Keeping.Written.{imm_entries}
+use Rattle.leveldb_store.specs.Keeping.WrittenFrom.{AddsNoEntry}
 use Rattle.std.proofs.lemmas.Result.{err_from_is_err_and}
 use Rattle.leveldb_base.specs.CmpLaws.{total_order}
-use Rattle.leveldb_version.specs.CurrentVersion.{VersionsValue}
-use Rattle.leveldb_version.specs.VersionEdit.{Edit}
-use Rattle.leveldb_version.specs.VersionSetValue.{VersionSetValue, broken}
+use Rattle.leveldb_version.specs.Sets.CurrentVersion.{VersionsValue}
+use Rattle.leveldb_files.specs.Edits.Edit.{Edit}
+use Rattle.leveldb_version.specs.Sets.VersionSetValue.{VersionSetValue, broken}
 use Rattle.leveldb_base.specs.History.{AreUpTo}
-use Rattle.leveldb_store.proofs.GivenNumbersLemmas.{live_given}
-use Rattle.leveldb_store.specs.OpenStore.{AreInLevels, HasOwnManifest, OpenStoreValue}
-use Rattle.leveldb_store.proofs.LevelsApartLemmas.{levels_with_picked, range_in_order}
-use Rattle.leveldb_store.proofs.AddedTableLemmas.{imm_added}
-use Rattle.leveldb_store.proofs.TableEntriesLemmas.{table_adds_none}
-use Rattle.leveldb_store.proofs.Level0TableLemmas.{in_use_of, keeps_done, keeps_failed, keeps_unmade, keeps_with_current, some_pairs, tables_logged, tables_unbuilt, tables_unlogged, unlogged_sound, imm_has_entries}
-use Rattle.leveldb_store.proofs.SoundLemmas.{edit_goes_on, given_unbroken, goes_on_then, sound_ok, sound_unbroken, table_goes_on}
+use Rattle.leveldb_store.proofs.Keeping.GivenNumbersLemmas.{live_given}
+use Rattle.leveldb_store.specs.Keeping.OpenStore.{AreInLevels, HasOwnManifest, OpenStoreValue}
+use Rattle.leveldb_store.proofs.Keeping.LevelsApartLemmas.{levels_with_picked, range_in_order}
+use Rattle.leveldb_store.proofs.Writing.AddedTableLemmas.{imm_added}
+use Rattle.leveldb_store.proofs.Writing.TableEntriesLemmas.{table_adds_none}
+use Rattle.leveldb_store.proofs.Writing.Level0TableLemmas.{in_use_of, keeps_done, keeps_failed, keeps_unmade, keeps_with_current, some_pairs, tables_logged, tables_unbuilt, tables_unlogged, unlogged_sound, imm_has_entries}
+use Rattle.leveldb_store.proofs.Keeping.SoundLemmas.{edit_goes_on, given_unbroken, goes_on_then, sound_ok, sound_unbroken, table_goes_on}
 use Rattle.leveldb_store.proofs.open_store.OpenStore.write_level0_table.Goals as goal
 
 not_broken : (set : VersionSetValue) (b : Bool) → (set.manifest ≡ broken → b ≡ true) → b ≡ false → set.manifest ≢ broken

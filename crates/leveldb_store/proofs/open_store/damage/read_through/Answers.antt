@@ -1,5 +1,5 @@
 use Rattle.std.proofs.Common.{Ok, ap}
-use Rattle.leveldb_store.proofs.WholeLogLemmas.{looked_clean, looked_later, looking_more}
+use Rattle.leveldb_store.proofs.Logs.WholeLogLemmas.{looked_clean, looked_later, looking_more}
 use Rattle.leveldb_store.proofs.open_store.damage.read_through.Goals as goal
 
 pub returns-in_err-next_batch-clause-later : goal.returns-in_err-next_batch-clause-later

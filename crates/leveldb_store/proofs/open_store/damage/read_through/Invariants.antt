@@ -1,5 +1,5 @@
-use Rattle.leveldb_version.specs.Paths.{log_path}
-use Rattle.leveldb_store.proofs.WholeLogLemmas.{IsLooking}
+use Rattle.leveldb_files.specs.Stores.Paths.{log_path}
+use Rattle.leveldb_store.proofs.Logs.WholeLogLemmas.{IsLooking}
 use Rattle.leveldb_store.proofs.open_store.damage.read_through.Given as goal
 
 -- batches were read, and nothing else was done

@@ -1,4 +1,4 @@
-use Rattle.leveldb_store.proofs.ReadLemmas.{finds_up_to}
+use Rattle.leveldb_store.proofs.Reading.ReadLemmas.{finds_up_to}
 use Rattle.leveldb_store.proofs.open_store.read.newest_up_to.Goals as goal
 
 pub returns : goal.returns

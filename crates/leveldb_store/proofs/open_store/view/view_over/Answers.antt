@@ -4,7 +4,7 @@ use Rattle.leveldb_base.specs.View.{view_of}
 use Rattle.leveldb_iter.specs.DbIterLaws.{view_laws}
 use Rattle.leveldb_iter.specs.MergedEntries.{internal_order}
 use Rattle.leveldb_iter.specs.MergingIterLaws.{merged_laws}
-use Rattle.leveldb_store.proofs.ViewMergeLemmas.{view_over}
+use Rattle.leveldb_store.proofs.Reading.ViewMergeLemmas.{view_over}
 use Rattle.leveldb_store.proofs.open_store.view.view_over.Goals as goal
 
 pub returns : goal.returns

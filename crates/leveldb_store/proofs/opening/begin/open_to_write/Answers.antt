@@ -2,8 +2,8 @@ use Rattle.std.proofs.Common.{◌∙◌, ℕ, ap, arith, refl, sym}
 use Rattle.std.specs.Prelude.{max}
 use Rattle.std.proofs.lemmas.Result.{err_from_is_err_and}
 use Rattle.leveldb_mem.specs.Log.LogFile.{LogFileState}
-use Rattle.leveldb_version.specs.Paths.{log_path}
-use Rattle.leveldb_store.proofs.OpeningBeginLemmas.{all_begun, edit_refused, ended_levels, ended_given, ended_made, ended_own, ended_path, ended_up_to, log_refused, neither, nothing_begun, replay_refused, unversioned}
+use Rattle.leveldb_files.specs.Stores.Paths.{log_path}
+use Rattle.leveldb_store.proofs.Openings.OpeningBeginLemmas.{all_begun, edit_refused, ended_levels, ended_given, ended_made, ended_own, ended_path, ended_up_to, log_refused, neither, nothing_begun, replay_refused, unversioned}
 use Rattle.leveldb_store.proofs.opening.begin.open_to_write.Goals as goal
 
 pub returns-in_err-path-clause-begins : goal.returns-in_err-path-clause-begins

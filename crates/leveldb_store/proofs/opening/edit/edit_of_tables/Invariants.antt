@@ -1,7 +1,7 @@
 use Rattle.std.proofs.Common.{◌≡◌, ◌++◌}
-use Rattle.leveldb_version.specs.Opening.{tables_edit}
-use Rattle.leveldb_version.specs.VersionEdit.{edit_of}
-use Rattle.leveldb_store.specs.OpeningSteps.{made_files}
+use Rattle.leveldb_version.specs.Engines.Opening.{tables_edit}
+use Rattle.leveldb_version.specs.Edits.VersionEdit.{edit_of}
+use Rattle.leveldb_store.specs.Openings.OpeningSteps.{made_files}
 use Rattle.leveldb_store.proofs.opening.edit.edit_of_tables.Given as goal
 
 abbrev pub invariant-loop-file : goal.invariant-loop-file

@@ -3,10 +3,10 @@ use Rattle.std.specs.Prelude.{Any, Contains, codes}
 use Rattle.std.proofs.lemmas.Result.{err_from_is_err_and}
 use Rattle.leveldb_env.specs.Env.{ListsChildren}
 use Rattle.leveldb_base.specs.declared.types.FileType.TheVariants.{Current, Log, Table}
-use Rattle.leveldb_store.specs.OpeningSteps.{HasTableOrLog}
+use Rattle.leveldb_store.specs.Openings.OpeningSteps.{HasTableOrLog}
 use Rattle.leveldb_store.specs.declared.opening.listing.ListedFile.{ListedFile}
-use Rattle.leveldb_store.proofs.ListingLemmas.{current_listed, entries_listed}
-use Rattle.leveldb_store.proofs.OpeningFindLemmas.{is_found, lacks_current, made, must_not_be, no_current, not_made, refused, unlisted}
+use Rattle.leveldb_store.proofs.Openings.ListingLemmas.{current_listed, entries_listed}
+use Rattle.leveldb_store.proofs.Openings.OpeningFindLemmas.{is_found, lacks_current, made, must_not_be, no_current, not_made, refused, unlisted}
 use Rattle.leveldb_store.proofs.opening.find.find_store.Goals as goal
 
 pub returns-in_err-files-clause-finds : goal.returns-in_err-files-clause-finds

@@ -2,7 +2,7 @@ use Rattle.std.proofs.Common.{◌≡◌, ◌⊎◌, ◌∙◌, refl, sym, true, 
 use Rattle.std.proofs.lemmas.List.Elements.{All-nil}
 use Rattle.leveldb_base.specs.declared.types.FileType.TheVariants.{Log, Table}
 use Rattle.leveldb_store.specs.declared.opening.listing.ListedFile.{ListedFile}
-use Rattle.leveldb_store.proofs.ListingLemmas.{all_more, any_one, none_at_all}
+use Rattle.leveldb_store.proofs.Openings.ListingLemmas.{all_more, any_one, none_at_all}
 use Rattle.leveldb_store.proofs.opening.find.has_table_or_log.Goals as goal
 
 pub loop-file-init : goal.loop-file-init

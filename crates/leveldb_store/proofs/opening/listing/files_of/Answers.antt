@@ -1,8 +1,8 @@
 use Rattle.std.proofs.Common.{◌≡◌, ◌∷◌, [], List, length, map, refl, sym, ap, subst, ◌∙◌, append_assoc, append-nil, arith, rules, string_bytes}
 use Rattle.std.proofs.lemmas.List.{map-append}
 use Rattle.std.specs.Vec.Iter.{into_iter_items}
-use Rattle.leveldb_store.specs.Listing.{AreFilesOf}
-use Rattle.leveldb_store.proofs.ListingLemmas.{files_more, no_files}
+use Rattle.leveldb_store.specs.Openings.Listing.{AreFilesOf}
+use Rattle.leveldb_store.proofs.Openings.ListingLemmas.{files_more, no_files}
 use Rattle.leveldb_store.proofs.opening.listing.files_of.Goals as goal
 
 nothing_left : {X : Type 0} (l : List X) → length l ≡ 0 → l ≡ []

@@ -1,6 +1,6 @@
 use Rattle.std.proofs.Common.{◌≡◌, ◌++◌, length, map, string_bytes}
 use Rattle.std.specs.Vec.Iter.{into_iter_items, into_iter_len}
-use Rattle.leveldb_store.specs.Listing.{AreFilesOf}
+use Rattle.leveldb_store.specs.Openings.Listing.{AreFilesOf}
 use Rattle.leveldb_store.proofs.opening.listing.files_of.Given as goal
 
 abbrev pub invariant-loop-name : goal.invariant-loop-name

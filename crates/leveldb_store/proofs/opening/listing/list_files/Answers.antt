@@ -3,8 +3,8 @@ use Rattle.std.specs.Prelude.{IsTrue}
 use Rattle.std.proofs.lemmas.Result.{err_from_is_err_and}
 use Rattle.leveldb_env.proofs.EnvLemmas.{Run-call}
 use Rattle.leveldb_env.specs.Env.{ListsChildren}
-use Rattle.leveldb_store.proofs.ListingLemmas.{lists_of, uncounted_memory}
-use Rattle.leveldb_store.proofs.OpeningCausesLemmas.{folder_bare, listing_found}
+use Rattle.leveldb_store.proofs.Openings.ListingLemmas.{lists_of, uncounted_memory}
+use Rattle.leveldb_store.proofs.Openings.OpeningCausesLemmas.{folder_bare, listing_found}
 use Rattle.leveldb_store.proofs.opening.listing.list_files.Goals as goal
 
 pub returns-in_err-names-clause-still : goal.returns-in_err-names-clause-still

@@ -3,12 +3,12 @@ use Rattle.std.proofs.lemmas.Result.{err_from_is_err_and}
 use Rattle.leveldb_base.specs.declared.error.Status.{Status}
 use Rattle.leveldb_env.specs.Env.{emptied}
 use Rattle.leveldb_env.specs.declared.env.Env.{Ghosts}
-use Rattle.leveldb_version.proofs.RecoverLemmas.{cause_of_error}
-use Rattle.leveldb_version.specs.Paths.{log_path}
-use Rattle.leveldb_version.specs.VersionSetValue.{AreFileNumbersUsedUp, VersionSetValue}
-use Rattle.leveldb_store.specs.OpeningSteps.{OpensFile, OpensLog}
-use Rattle.leveldb_store.specs.ReplayLog.{HasCauseOr}
-use Rattle.leveldb_store.specs.Switch.{MayGiveNumber}
+use Rattle.leveldb_version.proofs.Sets.RecoverLemmas.{cause_of_error}
+use Rattle.leveldb_files.specs.Stores.Paths.{log_path}
+use Rattle.leveldb_version.specs.Sets.VersionSetValue.{AreFileNumbersUsedUp, VersionSetValue}
+use Rattle.leveldb_store.specs.Openings.OpeningSteps.{OpensFile, OpensLog}
+use Rattle.leveldb_store.specs.Logs.ReplayLog.{HasCauseOr}
+use Rattle.leveldb_store.specs.Writing.Switch.{MayGiveNumber}
 use Rattle.leveldb_store.specs.declared.open_store.OpenLog.{OpenLog}
 use Rattle.leveldb_store.proofs.opening.log_to_write.open_log.Goals as goal
 

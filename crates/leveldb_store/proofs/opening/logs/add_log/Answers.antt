@@ -2,7 +2,7 @@ use Rattle.std.proofs.Common.{◌≡◌, ◌∙◌, subst, sym, string_bytes, tr
 use Rattle.std.proofs.lemmas.Result.{err_from_is_err_and}
 use Rattle.leveldb_base.specs.Names.{IsFileName}
 use Rattle.leveldb_base.specs.declared.types.FileType.TheVariants.{Log}
-use Rattle.leveldb_store.proofs.OpeningNamesLemmas.{adds_log, adds_none, misnamed_alone}
+use Rattle.leveldb_store.proofs.Openings.OpeningNamesLemmas.{adds_log, adds_none, misnamed_alone}
 use Rattle.leveldb_store.proofs.opening.logs.add_log.Goals as goal
 
 pub returns-then-not-is_replayed_log-clause-ok : goal.returns-then-not-is_replayed_log-clause-ok

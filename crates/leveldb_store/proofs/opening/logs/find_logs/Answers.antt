@@ -1,7 +1,7 @@
 use Rattle.std.proofs.Common.{inl, inr, ⊎_elim, string_bytes}
 use Rattle.std.proofs.lemmas.Result.{err_from_is_err_and}
-use Rattle.leveldb_store.specs.Listing.{names_of}
-use Rattle.leveldb_store.proofs.OpeningNamesLemmas.{logs_more, matches_one, misnamed_among, name_is_one, no_logs}
+use Rattle.leveldb_store.specs.Openings.Listing.{names_of}
+use Rattle.leveldb_store.proofs.Openings.OpeningNamesLemmas.{logs_more, matches_one, misnamed_among, name_is_one, no_logs}
 use Rattle.leveldb_store.proofs.opening.logs.find_logs.Goals as goal
 
 pub loop-file-init : goal.loop-file-init

@@ -1,6 +1,6 @@
 use Rattle.std.proofs.Common.{◌≡◌, arith, false}
 use Rattle.std.proofs.lemmas.Result.{err_from_is_err_and}
-use Rattle.leveldb_store.proofs.ReadLogsLemmas.{ReadingLog-more, ReadingLog-none, ReadsLog-bad, ReadsLog-clean, ReadsLog-out_of_memory, ReadsLog-stopped, ReadsLog-torn, ReadsLog-unfollowed, ReadsLog-unopened, ReadsLog-untaken}
+use Rattle.leveldb_store.proofs.Logs.ReadLogsLemmas.{ReadingLog-more, ReadingLog-none, ReadsLog-bad, ReadsLog-clean, ReadsLog-out_of_memory, ReadsLog-stopped, ReadsLog-torn, ReadsLog-unfollowed, ReadsLog-unopened, ReadsLog-untaken}
 use Rattle.leveldb_store.proofs.opening.read_logs.read_log.Goals as goal
 
 pub returns-in_err-log : goal.returns-in_err-log

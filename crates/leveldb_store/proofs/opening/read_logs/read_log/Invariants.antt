@@ -1,4 +1,4 @@
-use Rattle.leveldb_store.proofs.ReadLogsLemmas.{ReadingLog}
+use Rattle.leveldb_store.proofs.Logs.ReadLogsLemmas.{ReadingLog}
 use Rattle.leveldb_store.proofs.opening.read_logs.read_log.Given as goal
 
 -- the batches that were read are in memory

@@ -1,6 +1,6 @@
 use Rattle.std.proofs.Common.{refl}
 use Rattle.std.proofs.lemmas.Result.{err_from_is_err_and}
-use Rattle.leveldb_store.proofs.ReadLogsLemmas.{ReadingLogs-more, ReadingLogs-none, ReadsLogs-done, ReadsLogs-stopped, none_left}
+use Rattle.leveldb_store.proofs.Logs.ReadLogsLemmas.{ReadingLogs-more, ReadingLogs-none, ReadsLogs-done, ReadsLogs-stopped, none_left}
 use Rattle.leveldb_store.proofs.opening.read_logs.read_logs.Goals as goal
 
 pub loop-number-init : goal.loop-number-init

@@ -1,5 +1,5 @@
 use Rattle.std.proofs.Common.{length}
-use Rattle.leveldb_store.proofs.ReadLogsLemmas.{ReadingLogs}
+use Rattle.leveldb_store.proofs.Logs.ReadLogsLemmas.{ReadingLogs}
 use Rattle.leveldb_store.proofs.opening.read_logs.read_logs.Given as goal
 
 -- the first of the logs are in memory

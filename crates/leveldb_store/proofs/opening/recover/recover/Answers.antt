@@ -1,5 +1,5 @@
 use Rattle.std.proofs.lemmas.Result.{err_from_is_err_and}
-use Rattle.leveldb_store.proofs.OpeningRecoverLemmas.{all_done, find_refused, set_refused, sync_refused}
+use Rattle.leveldb_store.proofs.Openings.OpeningRecoverLemmas.{all_done, find_refused, set_refused, sync_refused}
 use Rattle.leveldb_store.proofs.opening.recover.recover.Goals as goal
 
 pub returns-in_err-listed : goal.returns-in_err-listed

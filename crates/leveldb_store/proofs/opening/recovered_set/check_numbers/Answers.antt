@@ -1,6 +1,6 @@
 use Rattle.std.proofs.Common.{◌≡◌, ◌∙◌, false, sym, true}
 use Rattle.std.proofs.lemmas.Result.{err_from_is_err_and}
-use Rattle.leveldb_store.proofs.GivenNumbersLemmas.{below_of_given, given_of_below}
+use Rattle.leveldb_store.proofs.Keeping.GivenNumbersLemmas.{below_of_given, given_of_below}
 use Rattle.leveldb_store.proofs.opening.recovered_set.check_numbers.Goals as goal
 
 pub returns-then-are_below-clause-ok : goal.returns-then-are_below-clause-ok

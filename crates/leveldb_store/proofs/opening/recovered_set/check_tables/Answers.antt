@@ -4,11 +4,11 @@ use Rattle.std.proofs.lemmas.List.{take_all}
 use Rattle.std.proofs.lemmas.List.Elements.{All-nil}
 use Rattle.leveldb_env.specs.Env.{HasCause, IsMissing}
 use Rattle.std.proofs.lemmas.Result.{err_from_is_err_and}
-use Rattle.leveldb_version.proofs.UsableLemmas.{as_new_files, file_is_one}
-use Rattle.leveldb_version.specs.Paths.{table_path}
-use Rattle.leveldb_version.specs.VersionEdit.{new_file_of}
-use Rattle.leveldb_store.proofs.OpeningCausesLemmas.{table_lost, tables_more}
-use Rattle.leveldb_store.specs.OpensStore.{AreTablesThere}
+use Rattle.leveldb_version.proofs.Sets.UsableLemmas.{as_new_files, file_is_one}
+use Rattle.leveldb_files.specs.Stores.Paths.{table_path}
+use Rattle.leveldb_version.specs.Edits.VersionEdit.{new_file_of}
+use Rattle.leveldb_store.proofs.Openings.OpeningCausesLemmas.{table_lost, tables_more}
+use Rattle.leveldb_store.specs.Openings.OpensStore.{AreTablesThere}
 use Rattle.leveldb_store.proofs.opening.recovered_set.check_tables.Goals as goal
 
 pub loop-file-init : goal.loop-file-init

@@ -1,6 +1,6 @@
 use Rattle.std.proofs.Common.{subst}
 use Rattle.std.specs.Prelude.{IfSome}
-use Rattle.leveldb_store.specs.Listing.{AreFilesIn}
+use Rattle.leveldb_store.specs.Openings.Listing.{AreFilesIn}
 use Rattle.leveldb_store.proofs.opening.recovered_set.files_in.Goals as goal
 
 pub returns-in-Some-clause-lists : goal.returns-in-Some-clause-lists

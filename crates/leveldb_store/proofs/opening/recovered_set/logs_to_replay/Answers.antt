@@ -1,6 +1,6 @@
 use Rattle.std.proofs.Common.{sym}
 use Rattle.std.proofs.lemmas.Result.{err_from_is_err_and}
-use Rattle.leveldb_store.proofs.RecoverSetLemmas.{logs_checked, numbers_ungiven, tables_missing}
+use Rattle.leveldb_store.proofs.Openings.RecoverSetLemmas.{logs_checked, numbers_ungiven, tables_missing}
 use Rattle.leveldb_store.proofs.opening.recovered_set.logs_to_replay.Goals as goal
 
 pub returns-in_err-check_tables : goal.returns-in_err-check_tables

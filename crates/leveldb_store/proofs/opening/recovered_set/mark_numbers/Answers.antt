@@ -1,6 +1,6 @@
 use Rattle.std.proofs.Common.{string_bytes}
 use Rattle.std.proofs.lemmas.Result.{err_from_is_err_and}
-use Rattle.leveldb_store.proofs.OpeningNamesLemmas.{marks_more, marks_none, matches_one, name_is_one}
+use Rattle.leveldb_store.proofs.Openings.OpeningNamesLemmas.{marks_more, marks_none, matches_one, name_is_one}
 use Rattle.leveldb_store.proofs.opening.recovered_set.mark_numbers.Goals as goal
 
 pub loop-file-init : goal.loop-file-init

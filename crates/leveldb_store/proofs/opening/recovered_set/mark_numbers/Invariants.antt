@@ -1,6 +1,6 @@
 use Rattle.std.proofs.Common.{take}
-use Rattle.leveldb_store.specs.Listing.{names_of}
-use Rattle.leveldb_store.specs.OpeningSteps.{MarksNames}
+use Rattle.leveldb_store.specs.Openings.Listing.{names_of}
+use Rattle.leveldb_store.specs.Openings.OpeningSteps.{MarksNames}
 use Rattle.leveldb_store.proofs.opening.recovered_set.mark_numbers.Given as goal
 
 abbrev pub invariant-loop-file : goal.invariant-loop-file

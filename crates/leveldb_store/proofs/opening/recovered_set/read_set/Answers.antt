@@ -3,12 +3,12 @@ use Rattle.std.specs.Prelude.{All, IsTrue}
 use Rattle.std.proofs.lemmas.Result.{err_from_is_err_and}
 use Rattle.leveldb_base.proofs.HistoryLemmas.{exact_order}
 use Rattle.leveldb_env.specs.Env.{FilesUnchanged, Run}
-use Rattle.leveldb_version.proofs.RecoveredLemmas.{read_is_recovered, unread_is_unrecovered}
-use Rattle.leveldb_version.specs.VersionSetValue.{VersionSetValue, new_version_set, unmade}
-use Rattle.leveldb_store.specs.Listing.{MatchesName, names_of}
-use Rattle.leveldb_store.specs.OpeningSteps.{ChecksSet, MarksNames}
-use Rattle.leveldb_store.proofs.ListingLemmas.{checks_listed, marks_listed, numbers_listed}
-use Rattle.leveldb_store.proofs.RecoverSetLemmas.{is_recovered, not_recovered, set_read, set_unread, still_thrice, still_twice, unchecked, unlisted, unnumbered}
+use Rattle.leveldb_version.proofs.Sets.RecoveredLemmas.{read_is_recovered, unread_is_unrecovered}
+use Rattle.leveldb_version.specs.Sets.VersionSetValue.{VersionSetValue, new_version_set, unmade}
+use Rattle.leveldb_store.specs.Openings.Listing.{MatchesName, names_of}
+use Rattle.leveldb_store.specs.Openings.OpeningSteps.{ChecksSet, MarksNames}
+use Rattle.leveldb_store.proofs.Openings.ListingLemmas.{checks_listed, marks_listed, numbers_listed}
+use Rattle.leveldb_store.proofs.Openings.RecoverSetLemmas.{is_recovered, not_recovered, set_read, set_unread, still_thrice, still_twice, unchecked, unlisted, unnumbered}
 use Rattle.leveldb_store.proofs.opening.recovered_set.read_set.Goals as goal
 
 pub returns-in_err-files : goal.returns-in_err-files

@@ -2,11 +2,11 @@ use Rattle.std.proofs.Common.{Err, Ok, subst, sym}
 use Rattle.std.specs.Prelude.{All}
 use Rattle.std.proofs.lemmas.Result.{err_from_is_err_and}
 use Rattle.leveldb_base.proofs.HistoryLemmas.{exact_order}
-use Rattle.leveldb_version.specs.VersionSetValue.{new_version_set}
-use Rattle.leveldb_store.specs.Listing.{MatchesName, names_of}
-use Rattle.leveldb_store.specs.OpeningSteps.{ChecksSet, MarksNames}
-use Rattle.leveldb_store.proofs.ListingLemmas.{checks_listed, marks_listed, numbers_listed}
-use Rattle.leveldb_store.proofs.RecoverSetLemmas.{is_recovered, not_recovered, unchecked, unlisted, unnumbered}
+use Rattle.leveldb_version.specs.Sets.VersionSetValue.{new_version_set}
+use Rattle.leveldb_store.specs.Openings.Listing.{MatchesName, names_of}
+use Rattle.leveldb_store.specs.Openings.OpeningSteps.{ChecksSet, MarksNames}
+use Rattle.leveldb_store.proofs.Openings.ListingLemmas.{checks_listed, marks_listed, numbers_listed}
+use Rattle.leveldb_store.proofs.Openings.RecoverSetLemmas.{is_recovered, not_recovered, unchecked, unlisted, unnumbered}
 use Rattle.leveldb_store.proofs.opening.recovered_set.recover_set.Goals as goal
 
 pub returns-in_err-files : goal.returns-in_err-files

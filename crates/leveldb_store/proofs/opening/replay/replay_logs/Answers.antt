@@ -2,8 +2,8 @@ use Rattle.std.proofs.Common.{◌≡◌, ◌∙◌, ◌≤◌, [], ap, false, tr
 use Rattle.std.specs.Prelude.{IsTrue}
 use Rattle.std.proofs.lemmas.Bool.{le-leb, leb-true}
 use Rattle.std.proofs.lemmas.Result.{err_from_is_err_and}
-use Rattle.leveldb_store.proofs.ReplayLogLemmas.{none_of_length}
-use Rattle.leveldb_store.proofs.ReplayLoopLemmas.{IsReplaying-more, IsReplaying-none, ReplaysLogs-refused, last_is, log_number_still, no_last, unusable_before, used_so}
+use Rattle.leveldb_store.proofs.Logs.ReplayLogLemmas.{none_of_length}
+use Rattle.leveldb_store.proofs.Logs.ReplayLoopLemmas.{IsReplaying-more, IsReplaying-none, ReplaysLogs-refused, last_is, log_number_still, no_last, unusable_before, used_so}
 use Rattle.leveldb_store.proofs.opening.replay.replay_logs.Goals.{then-options, else-options, then-is_empty, else-is_empty}
 use Rattle.leveldb_store.proofs.opening.replay.replay_logs.Goals as goal
 

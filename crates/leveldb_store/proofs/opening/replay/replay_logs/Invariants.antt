@@ -3,9 +3,9 @@ use Rattle.std.specs.Prelude.{IfSome, IsSome, IsTrue}
 use Rattle.leveldb_base.specs.contracts.cmp.internal.InternalKeyCmpCmp.TheImpl.{ghosts as key_order}
 use Rattle.leveldb_env.specs.contracts.compressor.CompressorListCompressors.TheImpl.{ghosts as compressors}
 use Rattle.leveldb_env.specs.contracts.filter.internal.InternalFilterPolicyFilterPolicy.TheImpl.{ghosts as key_policy}
-use Rattle.leveldb_store.specs.BuildTable.{choices_of}
-use Rattle.leveldb_store.specs.ReplayLog.{IsUnusable}
-use Rattle.leveldb_store.proofs.ReplayLoopLemmas.{IsReplaying}
+use Rattle.leveldb_store.specs.Tables.BuildTable.{choices_of}
+use Rattle.leveldb_store.specs.Logs.ReplayLog.{IsUnusable}
+use Rattle.leveldb_store.proofs.Logs.ReplayLoopLemmas.{IsReplaying}
 use Rattle.leveldb_store.proofs.opening.replay.replay_logs.Given as goal
 
 -- the logs before these are replayed

@@ -1,8 +1,8 @@
 use Rattle.std.proofs.Common.{◌≡◌, ◌==◌, ◌∙◌, inl, inr, false, true, [], ◌++◌, ap, arith, length, refl, sym}
 use Rattle.std.proofs.lemmas.Bool.{eq-eqb, eqb-true}
 use Rattle.std.proofs.lemmas.Result.{err_from_is_err_and}
-use Rattle.leveldb_store.proofs.ReplayLogLemmas.{none_of_length}
-use Rattle.leveldb_store.proofs.ReplayNextLemmas.{IsBoth, ReplaysNext-tables_made, ReplaysNext-torn, ReplaysNext-unlisted, ReplaysNext-unread, ReplaysNext-not_in_tables, ReplaysNext-used}
+use Rattle.leveldb_store.proofs.Logs.ReplayLogLemmas.{none_of_length}
+use Rattle.leveldb_store.proofs.Logs.ReplayNextLemmas.{IsBoth, ReplaysNext-tables_made, ReplaysNext-torn, ReplaysNext-unlisted, ReplaysNext-unread, ReplaysNext-not_in_tables, ReplaysNext-used}
 use Rattle.leveldb_store.proofs.opening.replay.replay_next.Goals.{then-replay, else-replay, else-may_go_on-via-then-may_go_on+then-log+else-is_empty, else-may_go_on-via-then-may_go_on+else-log, else-may_go_on-via-else-may_go_on}
 use Rattle.leveldb_store.proofs.opening.replay.replay_next.Goals as goal
 

@@ -1,6 +1,6 @@
 use Rattle.std.proofs.Common.{arith}
-use Rattle.leveldb_store.specs.ReplayLog.{Follows}
-use Rattle.leveldb_store.proofs.ReplayLogLemmas.{corrupt, fits_all, fits_not}
+use Rattle.leveldb_store.specs.Logs.ReplayLog.{Follows}
+use Rattle.leveldb_store.proofs.Logs.ReplayLogLemmas.{corrupt, fits_all, fits_not}
 use Rattle.leveldb_store.proofs.opening.replay_log.check_follows.Goals as goal
 use Rattle.leveldb_store.proofs.opening.replay_log.check_follows.Goals.{then-first-gt-MAX_SEQUENCE_NUMBER-via-then-first-gt-MAX_SEQUENCE_NUMBER, then-first-gt-MAX_SEQUENCE_NUMBER-via-else-first-gt-MAX_SEQUENCE_NUMBER+then-first-from}
 

@@ -1,6 +1,6 @@
 use Rattle.std.proofs.Common.{◌∙◌}
 use Rattle.std.proofs.lemmas.Result.{err_from_is_err_and}
-use Rattle.leveldb_store.proofs.ReplayStoreLemmas.{ReplaysFile-bad, ReplaysFile-clean, ReplaysFile-out_of_memory, ReplaysFile-refused, ReplaysFile-stopped, ReplaysFile-unread, Replaying-more, Replaying-none, up_to_more}
+use Rattle.leveldb_store.proofs.Logs.ReplayStoreLemmas.{ReplaysFile-bad, ReplaysFile-clean, ReplaysFile-out_of_memory, ReplaysFile-refused, ReplaysFile-stopped, ReplaysFile-unread, Replaying-more, Replaying-none, up_to_more}
 use Rattle.leveldb_store.proofs.opening.replay_log.replay_log.Goals as goal
 
 pub returns-in_err-log-clause-replays : goal.returns-in_err-log-clause-replays

@@ -1,8 +1,8 @@
 use Rattle.leveldb_base.specs.contracts.cmp.internal.InternalKeyCmpCmp.TheImpl.{ghosts as key_order}
 use Rattle.leveldb_env.specs.contracts.compressor.CompressorListCompressors.TheImpl.{ghosts as compressors}
 use Rattle.leveldb_env.specs.contracts.filter.internal.InternalFilterPolicyFilterPolicy.TheImpl.{ghosts as key_policy}
-use Rattle.leveldb_store.specs.BuildTable.{choices_of}
-use Rattle.leveldb_store.proofs.ReplayStoreLemmas.{Replaying}
+use Rattle.leveldb_store.specs.Tables.BuildTable.{choices_of}
+use Rattle.leveldb_store.proofs.Logs.ReplayStoreLemmas.{Replaying}
 use Rattle.leveldb_store.proofs.opening.replay_log.replay_log.Given as goal
 
 -- the batches that were read are replayed

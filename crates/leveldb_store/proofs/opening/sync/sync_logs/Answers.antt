@@ -1,8 +1,8 @@
 use Rattle.std.proofs.Common.{◌≡◌, ◌∙◌, ◌∷◌, ◌++◌, [], map, ap, refl, sym}
 use Rattle.std.proofs.lemmas.List.{map-append}
 use Rattle.std.specs.Map.Iter.{deref}
-use Rattle.leveldb_store.specs.OpeningSteps.{with_logs_kept}
-use Rattle.leveldb_store.proofs.OpeningSyncsLemmas.{kept_then, run_on, walked_on}
+use Rattle.leveldb_store.specs.Openings.OpeningSteps.{with_logs_kept}
+use Rattle.leveldb_store.proofs.Openings.OpeningSyncsLemmas.{kept_then, run_on, walked_on}
 use Rattle.leveldb_store.proofs.opening.sync.sync_logs.Goals as goal
 
 pub loop-number-preserved : goal.loop-number-preserved

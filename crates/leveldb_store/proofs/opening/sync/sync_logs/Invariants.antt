@@ -2,7 +2,7 @@ use Rattle.std.proofs.Common.{◌≡◌, ◌++◌, map}
 use Rattle.std.specs.Prelude.{IsTrue}
 use Rattle.std.specs.Map.Iter.{deref}
 use Rattle.leveldb_env.specs.Env.{Run, SameLocks}
-use Rattle.leveldb_store.specs.OpeningSteps.{AreBeingKept, with_logs_kept}
+use Rattle.leveldb_store.specs.Openings.OpeningSteps.{AreBeingKept, with_logs_kept}
 use Rattle.leveldb_store.proofs.opening.sync.sync_logs.Given as goal
 
 abbrev pub invariant-loop-number : goal.invariant-loop-number

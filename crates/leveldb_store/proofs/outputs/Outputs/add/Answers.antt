@@ -1,5 +1,5 @@
 use Rattle.std.proofs.Common.{◌∙◌, ap, refl, sym}
-use Rattle.leveldb_store.proofs.OutputsLemmas.{pair_added}
+use Rattle.leveldb_store.proofs.Tables.OutputsLemmas.{pair_added}
 use Rattle.leveldb_store.proofs.outputs.Outputs.add.Goals as goal
 
 pub returns : goal.returns

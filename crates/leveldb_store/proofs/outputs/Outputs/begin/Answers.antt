@@ -3,10 +3,10 @@ use Rattle.std.proofs.lemmas.Result.{err_from_is_err_and}
 use Rattle.leveldb_base.specs.contracts.cmp.internal.InternalKeyCmpCmp.TheImpl.{ghosts as key_cmp}
 use Rattle.leveldb_env.specs.contracts.compressor.CompressorListCompressors.TheImpl.{ghosts as compressors}
 use Rattle.leveldb_env.specs.contracts.filter.internal.InternalFilterPolicyFilterPolicy.TheImpl.{ghosts as key_policy}
-use Rattle.leveldb_store.specs.BuildTable.{choices_of}
-use Rattle.leveldb_store.specs.TableFile.{ChangesOneFile}
-use Rattle.leveldb_store.proofs.OutputsLemmas.{first_added, first_changes, key_accepted, none_cause, none_changes, not_begun, outputs_begun, table_begun}
-use Rattle.leveldb_store.proofs.TableFileLemmas.{opened_is}
+use Rattle.leveldb_store.specs.Tables.BuildTable.{choices_of}
+use Rattle.leveldb_store.specs.Tables.TableFile.{ChangesOneFile}
+use Rattle.leveldb_store.proofs.Tables.OutputsLemmas.{first_added, first_changes, key_accepted, none_cause, none_changes, not_begun, outputs_begun, table_begun}
+use Rattle.leveldb_store.proofs.Tables.TableFileLemmas.{opened_is}
 use Rattle.leveldb_store.proofs.outputs.Outputs.begin.Goals as goal
 
 pub add-requires-clause-accepted : goal.add-requires-clause-accepted

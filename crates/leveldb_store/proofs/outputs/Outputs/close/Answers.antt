@@ -1,7 +1,7 @@
 use Rattle.std.specs.Prelude.{IsTrue, is_some}
 use Rattle.std.proofs.Common.{◌∙◌, ◌∷◌, ◌++◌, [], ap, refl, subst, sym}
 use Rattle.std.proofs.lemmas.Result.{err_from_is_err_and}
-use Rattle.leveldb_store.proofs.OutputsLemmas.{open_finished, open_unfinished, pushed_is}
+use Rattle.leveldb_store.proofs.Tables.OutputsLemmas.{open_finished, open_unfinished, pushed_is}
 use Rattle.leveldb_store.proofs.outputs.Outputs.close.Goals as goal
 
 pub returns-in_err-made-clause-finishes : goal.returns-in_err-made-clause-finishes

@@ -1,6 +1,6 @@
 use Rattle.std.proofs.Common.{ap}
 use Rattle.std.proofs.lemmas.Result.{err_from_is_err_and}
-use Rattle.leveldb_store.proofs.OutputsLemmas.{finished_so, unfinished_so}
+use Rattle.leveldb_store.proofs.Tables.OutputsLemmas.{finished_so, unfinished_so}
 use Rattle.leveldb_store.proofs.outputs.Outputs.finish.Goals as goal
 
 pub returns-in_err-close : goal.returns-in_err-close

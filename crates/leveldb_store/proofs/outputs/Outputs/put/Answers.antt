@@ -1,8 +1,8 @@
 use Rattle.std.specs.Prelude.{is_some}
 use Rattle.std.proofs.Common.{◌∙◌, inl, inr, ap, sym}
 use Rattle.std.proofs.lemmas.Result.{err_from_is_err_and}
-use Rattle.leveldb_store.proofs.MergeLoopLemmas.{may_rise}
-use Rattle.leveldb_store.proofs.OutputsLemmas.{added_is_put, begun_is_put, none_of, unfinished_not_put}
+use Rattle.leveldb_store.proofs.Compactions.MergeLoopLemmas.{may_rise}
+use Rattle.leveldb_store.proofs.Tables.OutputsLemmas.{added_is_put, begun_is_put, none_of, unfinished_not_put}
 use Rattle.leveldb_store.proofs.outputs.Outputs.put.Goals.{else-not-due-via-else-not-due, else-not-due-via-then-not-due+else-is_some}
 use Rattle.leveldb_store.proofs.outputs.Outputs.put.Goals as goal
 

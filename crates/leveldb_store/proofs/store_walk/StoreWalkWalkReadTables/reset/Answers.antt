@@ -1,4 +1,4 @@
-use Rattle.leveldb_store.proofs.StoreWalkLemmas.{tables_resets}
+use Rattle.leveldb_store.proofs.Reading.StoreWalkLemmas.{tables_resets}
 use Rattle.leveldb_store.proofs.store_walk.StoreWalkWalkReadTables.reset.Goals as goal
 
 pub returns-in-Tables : goal.returns-in-Tables

@@ -1,4 +1,4 @@
-use Rattle.leveldb_store.proofs.StoreWalkLemmas.{memory_moves, tables_moves}
+use Rattle.leveldb_store.proofs.Reading.StoreWalkLemmas.{memory_moves, tables_moves}
 use Rattle.leveldb_store.proofs.store_walk.StoreWalkWalkReadTables.seek_to_last.Goals as goal
 
 pub returns-in-Memory : goal.returns-in-Memory

@@ -1,10 +1,10 @@
 use Rattle.std.proofs.Common.{◌≡◌, ◌↔◌, ◌∙◌, Bool, List, ap, map, subst, sym, true, ℕ}
 use Rattle.leveldb_base.specs.declared.types.FileMetaData.{FileMetaData}
-use Rattle.leveldb_version.proofs.AmongLemmas.{among_tells}
-use Rattle.leveldb_version.specs.Contradictions.{IsAmongInputs, is_among_inputs}
-use Rattle.leveldb_version.specs.Picking.{CompactionValue}
-use Rattle.leveldb_version.specs.Version.{new_files_of}
-use Rattle.leveldb_version.specs.VersionEdit.{new_file_of}
+use Rattle.leveldb_version.proofs.Compactions.AmongLemmas.{among_tells}
+use Rattle.leveldb_version.specs.Compactions.Contradictions.{IsAmongInputs, is_among_inputs}
+use Rattle.leveldb_version.specs.Compactions.Picking.{CompactionValue}
+use Rattle.leveldb_version.specs.Versions.Version.{new_files_of}
+use Rattle.leveldb_version.specs.Edits.VersionEdit.{new_file_of}
 use Rattle.leveldb_version.proofs.compaction.Compaction.is_among_inputs.Goals as goal
 
 pub returns-clause-exact : goal.returns-clause-exact

@@ -1,8 +1,8 @@
 use Rattle.std.proofs.Common.{◌≡◌, ◌∙◌, ap, false, sym}
-use Rattle.leveldb_version.specs.Picking.{CompactionValue}
-use Rattle.leveldb_version.specs.Version.{new_files_of}
-use Rattle.leveldb_version.specs.VersionEdit.{new_file_of}
-use Rattle.leveldb_version.proofs.CompactionCallLemmas.{moves_if_small}
+use Rattle.leveldb_version.specs.Compactions.Picking.{CompactionValue}
+use Rattle.leveldb_version.specs.Versions.Version.{new_files_of}
+use Rattle.leveldb_version.specs.Edits.VersionEdit.{new_file_of}
+use Rattle.leveldb_version.proofs.Compactions.CompactionCallLemmas.{moves_if_small}
 use Rattle.leveldb_version.proofs.compaction.Compaction.is_trivial_move.Goals as goal
 
 pub returns-in_default : goal.returns-in_default

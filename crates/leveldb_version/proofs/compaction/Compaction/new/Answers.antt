@@ -1,10 +1,10 @@
 use Rattle.std.proofs.Common.{◌≡◌, ◌∙◌, refl, subst, sym}
-use Rattle.leveldb_version.specs.Compaction.{MayCompact}
-use Rattle.leveldb_version.specs.CompactionEdit.{SetsPointer}
-use Rattle.leveldb_version.specs.Inputs.{MayTake, input_files}
-use Rattle.leveldb_version.specs.Version.{VersionValue, new_files_of}
-use Rattle.leveldb_version.specs.VersionEdit.{edit_of}
-use Rattle.leveldb_version.proofs.CompactionCallLemmas.{may_in_any_order, pointer_in_any_order}
+use Rattle.leveldb_version.specs.Compactions.Compaction.{MayCompact}
+use Rattle.leveldb_version.specs.Compactions.CompactionEdit.{SetsPointer}
+use Rattle.leveldb_version.specs.Compactions.Inputs.{MayTake, input_files}
+use Rattle.leveldb_version.specs.Versions.Version.{VersionValue, new_files_of}
+use Rattle.leveldb_version.specs.Edits.VersionEdit.{edit_of}
+use Rattle.leveldb_version.proofs.Compactions.CompactionCallLemmas.{may_in_any_order, pointer_in_any_order}
 use Rattle.leveldb_version.proofs.compaction.Compaction.new.Goals as goal
 
 pub invariant_of-result : goal.invariant_of-result

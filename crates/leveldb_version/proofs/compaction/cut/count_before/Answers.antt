@@ -1,7 +1,7 @@
 use Rattle.std.proofs.Common.{◌∙◌, arith, ap, sym}
 use Rattle.std.specs.Ordering.{is_gt}
 use Rattle.leveldb_base.specs.KeyTypes.{internal_cmp}
-use Rattle.leveldb_version.proofs.CutLemmas.{counted_on, counted_through, counted_to}
+use Rattle.leveldb_version.proofs.Compactions.CutLemmas.{counted_on, counted_through, counted_to}
 use Rattle.leveldb_version.proofs.compaction.cut.count_before.Goals as goal
 
 pub returns-then-not-is_gt : goal.returns-then-not-is_gt

@@ -1,7 +1,7 @@
 use Rattle.std.proofs.Common.{◌≡◌}
 use Rattle.std.specs.Ordering.{is_gt}
 use Rattle.leveldb_base.specs.KeyTypes.{internal_cmp}
-use Rattle.leveldb_version.proofs.CutLemmas.{AreCounted}
+use Rattle.leveldb_version.proofs.Compactions.CutLemmas.{AreCounted}
 use Rattle.leveldb_version.proofs.compaction.cut.count_before.Given as goal
 
 abbrev pub invariant-loop-file : goal.invariant-loop-file

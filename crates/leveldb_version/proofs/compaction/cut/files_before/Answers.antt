@@ -1,6 +1,6 @@
 use Rattle.std.specs.Ordering.{is_gt}
 use Rattle.leveldb_base.specs.KeyTypes.{internal_cmp}
-use Rattle.leveldb_version.proofs.CutLemmas.{counted_files, counted_within}
+use Rattle.leveldb_version.proofs.Compactions.CutLemmas.{counted_files, counted_within}
 use Rattle.leveldb_version.proofs.compaction.cut.files_before.Goals as goal
 
 pub slice_bounds-result-end : goal.slice_bounds-result-end

@@ -5,10 +5,10 @@ use Rattle.std.proofs.lemmas.List.{take_all}
 use Rattle.leveldb_base.specs.CmpLaws.{total_order}
 use Rattle.leveldb_base.specs.KeyTypes.{internal_cmp}
 use Rattle.leveldb_base.specs.declared.types.FileMetaData.{FileMetaData}
-use Rattle.leveldb_version.proofs.InputsLemmas.{AreKeyEndsSoFar, borrowed_more, in_borrowed, key_ends_at_last, key_ends_begin, key_ends_go_on}
-use Rattle.leveldb_version.proofs.VersionLemmas.{internal_total}
-use Rattle.leveldb_version.specs.Version.{borrowed_files}
-use Rattle.leveldb_version.specs.VersionEdit.{new_file_of}
+use Rattle.leveldb_version.proofs.Compactions.InputsLemmas.{AreKeyEndsSoFar, borrowed_more, in_borrowed, key_ends_at_last, key_ends_begin, key_ends_go_on}
+use Rattle.leveldb_version.proofs.Versions.VersionLemmas.{internal_total}
+use Rattle.leveldb_version.specs.Versions.Version.{borrowed_files}
+use Rattle.leveldb_version.specs.Edits.VersionEdit.{new_file_of}
 use Rattle.leveldb_version.proofs.compaction.inputs.ends_of.Goals as goal
 
 pub loop-file-init : goal.loop-file-init

@@ -1,7 +1,7 @@
 use Rattle.std.proofs.Common.{take}
 use Rattle.leveldb_base.specs.KeyTypes.{internal_cmp}
-use Rattle.leveldb_version.specs.Version.{borrowed_files}
-use Rattle.leveldb_version.proofs.InputsLemmas.{AreKeyEndsSoFar}
+use Rattle.leveldb_version.specs.Versions.Version.{borrowed_files}
+use Rattle.leveldb_version.proofs.Compactions.InputsLemmas.{AreKeyEndsSoFar}
 use Rattle.leveldb_version.proofs.compaction.inputs.ends_of.Given as goal
 
 abbrev pub invariant-loop-file : goal.invariant-loop-file

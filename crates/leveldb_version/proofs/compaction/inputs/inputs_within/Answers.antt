@@ -1,11 +1,11 @@
 use Rattle.std.proofs.Common.{◌≡◌, ◌∙◌, ap, subst}
 use Rattle.leveldb_base.specs.CmpLaws.{total_order}
 use Rattle.leveldb_base.specs.KeyTypes.{user_part}
-use Rattle.leveldb_version.proofs.InputsLemmas.{inputs_are_chosen}
-use Rattle.leveldb_version.proofs.OverlapLemmas.{if_ok_more}
-use Rattle.leveldb_version.specs.Compaction.{closed_range}
-use Rattle.leveldb_version.specs.Overlap.{AreInputs, UserRange}
-use Rattle.leveldb_version.specs.Version.{borrowed_files, new_files_of}
+use Rattle.leveldb_version.proofs.Compactions.InputsLemmas.{inputs_are_chosen}
+use Rattle.leveldb_files.proofs.Levels.OverlapLemmas.{if_ok_more}
+use Rattle.leveldb_version.specs.Compactions.Compaction.{closed_range}
+use Rattle.leveldb_files.specs.Levels.Overlap.{AreInputs, UserRange}
+use Rattle.leveldb_version.specs.Versions.Version.{borrowed_files, new_files_of}
 use Rattle.leveldb_version.proofs.compaction.inputs.inputs_within.Goals as goal
 
 pub returns-clause-chosen : goal.returns-clause-chosen

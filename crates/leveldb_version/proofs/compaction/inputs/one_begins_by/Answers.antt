@@ -1,7 +1,7 @@
 use Rattle.std.proofs.Common.{◌∙◌, sym}
-use Rattle.leveldb_version.specs.Contradictions.{begins_by}
-use Rattle.leveldb_version.specs.VersionEdit.{new_file_of}
-use Rattle.leveldb_version.proofs.OverlapLemmas.{any_mapped}
+use Rattle.leveldb_version.specs.Compactions.Contradictions.{begins_by}
+use Rattle.leveldb_version.specs.Edits.VersionEdit.{new_file_of}
+use Rattle.leveldb_files.proofs.Levels.OverlapLemmas.{any_mapped}
 use Rattle.leveldb_version.proofs.compaction.inputs.one_begins_by.Goals as goal
 
 pub returns-then-begins_by : goal.returns-then-begins_by

@@ -1,7 +1,7 @@
 use Rattle.std.proofs.Common.{◌≡◌, false, map, take}
 use Rattle.std.specs.List.{list_any}
-use Rattle.leveldb_version.specs.Contradictions.{begins_by}
-use Rattle.leveldb_version.specs.VersionEdit.{new_file_of}
+use Rattle.leveldb_version.specs.Compactions.Contradictions.{begins_by}
+use Rattle.leveldb_version.specs.Edits.VersionEdit.{new_file_of}
 use Rattle.leveldb_version.proofs.compaction.inputs.one_begins_by.Given as goal
 
 abbrev pub invariant-loop-file : goal.invariant-loop-file

@@ -1,9 +1,9 @@
 use Rattle.std.proofs.Common.{◌∙◌, List, ap, false, map, sym, true, ℕ}
 use Rattle.std.specs.List.{list_any}
 use Rattle.leveldb_base.specs.declared.types.FileMetaData.{FileMetaData}
-use Rattle.leveldb_version.proofs.AmongLemmas.{any_last, or_false, or_true}
-use Rattle.leveldb_version.specs.Contradictions.{ends_from}
-use Rattle.leveldb_version.specs.VersionEdit.{new_file_of}
+use Rattle.leveldb_version.proofs.Compactions.AmongLemmas.{any_last, or_false, or_true}
+use Rattle.leveldb_version.specs.Compactions.Contradictions.{ends_from}
+use Rattle.leveldb_version.specs.Edits.VersionEdit.{new_file_of}
 use Rattle.leveldb_version.proofs.compaction.inputs.one_ends_from.Goals as goal
 
 pub returns-then-ends_from : goal.returns-then-ends_from

@@ -1,7 +1,7 @@
 use Rattle.std.proofs.Common.{◌≡◌, length, map}
 use Rattle.std.specs.List.{list_any}
-use Rattle.leveldb_version.specs.Contradictions.{ends_from}
-use Rattle.leveldb_version.specs.VersionEdit.{new_file_of}
+use Rattle.leveldb_version.specs.Compactions.Contradictions.{ends_from}
+use Rattle.leveldb_version.specs.Edits.VersionEdit.{new_file_of}
 use Rattle.leveldb_version.proofs.compaction.inputs.one_ends_from.Given as goal
 
 abbrev pub invariant-loop-file : goal.invariant-loop-file

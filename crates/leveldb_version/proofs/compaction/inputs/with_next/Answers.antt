@@ -2,11 +2,11 @@ use Rattle.std.proofs.Common.{◌≡◌, ◌∙◌, ◌+◌, List, ap, subst, �
 use Rattle.std.specs.Borrow.{Bor}
 use Rattle.leveldb_base.specs.KeyTypes.{user_part}
 use Rattle.leveldb_base.specs.declared.types.FileMetaData.{FileMetaData}
-use Rattle.leveldb_version.proofs.InputsLemmas.{taken_with_next}
-use Rattle.leveldb_version.specs.Compaction.{closed_range}
-use Rattle.leveldb_version.specs.Inputs.{AreKeyEnds}
-use Rattle.leveldb_version.specs.Overlap.{overlapping}
-use Rattle.leveldb_version.specs.Version.{borrowed_files, new_files_of}
+use Rattle.leveldb_version.proofs.Compactions.InputsLemmas.{taken_with_next}
+use Rattle.leveldb_version.specs.Compactions.Compaction.{closed_range}
+use Rattle.leveldb_version.specs.Compactions.Inputs.{AreKeyEnds}
+use Rattle.leveldb_files.specs.Levels.Overlap.{overlapping}
+use Rattle.leveldb_version.specs.Versions.Version.{borrowed_files, new_files_of}
 use Rattle.leveldb_version.proofs.compaction.inputs.with_next.Goals as goal
 
 pub returns-clause-may : goal.returns-clause-may

@@ -2,13 +2,14 @@ use Rattle.std.proofs.Common.{◌≡◌, ◌∙◌, List, Option, Some, ap, map,
 use Rattle.std.specs.Option.{option_copied, option_map_or}
 use Rattle.std.specs.Prelude.{Contains, IfSome}
 use Rattle.leveldb_base.specs.declared.types.FileMetaData.{FileMetaData}
-use Rattle.leveldb_version.proofs.PickingLemmas.{known_level, there_in_level}
-use Rattle.leveldb_version.proofs.VersionLemmas.{at_level_map}
-use Rattle.leveldb_version.specs.Picking.{file_after, file_by_reads, used_pointer}
-use Rattle.leveldb_version.specs.Scores.{level_by_score}
-use Rattle.leveldb_version.specs.Summary.{files_of_level}
-use Rattle.leveldb_version.specs.Version.{new_files_of}
-use Rattle.leveldb_version.specs.VersionEdit.{NewFile, new_file_of, pointer_of}
+use Rattle.leveldb_version.proofs.Compactions.PickingLemmas.{known_level, there_in_level}
+use Rattle.leveldb_version.proofs.Versions.VersionLemmas.{at_level_map}
+use Rattle.leveldb_version.specs.Compactions.Picking.{file_after, file_by_reads, used_pointer}
+use Rattle.leveldb_version.specs.Compactions.Scores.{level_by_score}
+use Rattle.leveldb_files.specs.Levels.Summary.{files_of_level}
+use Rattle.leveldb_version.specs.Versions.Version.{new_files_of}
+use Rattle.leveldb_files.specs.Edits.Edit.{NewFile}
+use Rattle.leveldb_version.specs.Edits.VersionEdit.{new_file_of, pointer_of}
 use Rattle.leveldb_version.proofs.compaction.pick.asking_file.Goals as goal
 
 pub returns-in-Some-clause-there : goal.returns-in-Some-clause-there

@@ -4,15 +4,15 @@ use Rattle.std.specs.Prelude.{Contains}
 use Rattle.leveldb_base.specs.CmpLaws.{total_order}
 use Rattle.leveldb_base.specs.KeyTypes.{user_part}
 use Rattle.leveldb_base.specs.declared.types.FileMetaData.{FileMetaData}
-use Rattle.leveldb_version.proofs.InputsLemmas.{one_is_chosen}
-use Rattle.leveldb_version.proofs.OverlapLemmas.{if_ok_more}
-use Rattle.leveldb_version.proofs.PickingLemmas.{file_in_level, own_is_input}
-use Rattle.leveldb_version.specs.Inputs.{AreChosen}
-use Rattle.leveldb_version.specs.Overlap.{AreInputs}
-use Rattle.leveldb_version.specs.Compaction.{closed_range}
-use Rattle.leveldb_version.specs.Summary.{files_of_level}
-use Rattle.leveldb_version.specs.Version.{borrowed_files, new_files_of}
-use Rattle.leveldb_version.specs.VersionEdit.{new_file_of}
+use Rattle.leveldb_version.proofs.Compactions.InputsLemmas.{one_is_chosen}
+use Rattle.leveldb_files.proofs.Levels.OverlapLemmas.{if_ok_more}
+use Rattle.leveldb_version.proofs.Compactions.PickingLemmas.{file_in_level, own_is_input}
+use Rattle.leveldb_version.specs.Compactions.Inputs.{AreChosen}
+use Rattle.leveldb_files.specs.Levels.Overlap.{AreInputs}
+use Rattle.leveldb_version.specs.Compactions.Compaction.{closed_range}
+use Rattle.leveldb_files.specs.Levels.Summary.{files_of_level}
+use Rattle.leveldb_version.specs.Versions.Version.{borrowed_files, new_files_of}
+use Rattle.leveldb_version.specs.Edits.VersionEdit.{new_file_of}
 use Rattle.leveldb_version.proofs.compaction.pick.chosen_with.Goals as goal
 
 pub returns-then-file-eq0-clause-file : goal.returns-then-file-eq0-clause-file

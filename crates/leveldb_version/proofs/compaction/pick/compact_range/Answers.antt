@@ -5,15 +5,15 @@ use Rattle.std.specs.Global.{Global}
 use Rattle.leveldb_base.specs.CmpLaws.{total_order}
 use Rattle.leveldb_base.specs.KeyTypes.{user_part}
 use Rattle.leveldb_base.specs.declared.types.FileMetaData.{FileMetaData}
-use Rattle.leveldb_version.proofs.InputsLemmas.{first_are_chosen}
-use Rattle.leveldb_version.proofs.OverlapLemmas.{if_ok_more}
-use Rattle.leveldb_version.proofs.SearchLemmas.{kept_passes}
-use Rattle.leveldb_version.proofs.PickingLemmas.{borrowed_none, borrowed_taken, first_in, first_taken, none_are_inputs, none_overlaps, none_past, none_taken, of_range, overlapping_is_input, some_exactly, taken_borrowed}
-use Rattle.leveldb_version.specs.Inputs.{AreChosen, IsCountPast}
-use Rattle.leveldb_version.specs.Overlap.{AreInputs, UserRange, is_overlapped, named_range, overlapping, overlaps}
-use Rattle.leveldb_version.specs.Summary.{files_of_level}
-use Rattle.leveldb_version.specs.Version.{borrowed_files, new_files_of}
-use Rattle.leveldb_version.specs.VersionEdit.{NewFile}
+use Rattle.leveldb_version.proofs.Compactions.InputsLemmas.{first_are_chosen}
+use Rattle.leveldb_files.proofs.Levels.OverlapLemmas.{if_ok_more}
+use Rattle.leveldb_version.proofs.Versions.SearchLemmas.{kept_passes}
+use Rattle.leveldb_version.proofs.Compactions.PickingLemmas.{borrowed_none, borrowed_taken, first_in, first_taken, none_are_inputs, none_overlaps, none_past, none_taken, of_range, overlapping_is_input, some_exactly, taken_borrowed}
+use Rattle.leveldb_version.specs.Compactions.Inputs.{AreChosen, IsCountPast}
+use Rattle.leveldb_files.specs.Levels.Overlap.{AreInputs, UserRange, is_overlapped, named_range, overlapping, overlaps}
+use Rattle.leveldb_files.specs.Levels.Summary.{files_of_level}
+use Rattle.leveldb_version.specs.Versions.Version.{borrowed_files, new_files_of}
+use Rattle.leveldb_files.specs.Edits.Edit.{NewFile}
 use Rattle.leveldb_version.proofs.compaction.pick.compact_range.Goals as goal
 use Rattle.leveldb_version.proofs.compaction.pick.compact_range.Goals.{then-level-gt0, else-level-gt0}
 

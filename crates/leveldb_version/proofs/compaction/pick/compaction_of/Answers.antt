@@ -3,8 +3,8 @@ use Rattle.std.specs.Borrow.{Bor}
 use Rattle.std.specs.Global.{Global}
 use Rattle.std.specs.Prelude.{IfSome}
 use Rattle.leveldb_base.specs.declared.types.FileMetaData.{FileMetaData}
-use Rattle.leveldb_version.proofs.CompactionCallLemmas.{kept_through}
-use Rattle.leveldb_version.specs.Version.{borrowed_files, new_files_of}
+use Rattle.leveldb_version.proofs.Compactions.CompactionCallLemmas.{kept_through}
+use Rattle.leveldb_version.specs.Versions.Version.{borrowed_files, new_files_of}
 use Rattle.leveldb_version.specs.declared.compaction.inputs.Inputs.{Inputs}
 use Rattle.leveldb_version.proofs.compaction.pick.compaction_of.Goals as goal
 

@@ -1,5 +1,5 @@
-use Rattle.leveldb_version.specs.VersionEdit.{new_file_of}
-use Rattle.leveldb_version.proofs.PickingLemmas.{of_file}
+use Rattle.leveldb_version.specs.Edits.VersionEdit.{new_file_of}
+use Rattle.leveldb_version.proofs.Compactions.PickingLemmas.{of_file}
 use Rattle.leveldb_version.proofs.compaction.pick.compaction_with.Goals as goal
 
 pub returns-clause-ok : goal.returns-clause-ok

@@ -1,8 +1,8 @@
 use Rattle.std.proofs.Common.{◌+◌, ◌<◌, arith, length, subst, sym, ℕ}
-use Rattle.leveldb_version.proofs.InputsLemmas.{borrowed_at, borrowed_length, counted_all, counted_on, counted_past}
-use Rattle.leveldb_version.specs.Inputs.{IsCountPast}
-use Rattle.leveldb_version.specs.Version.{borrowed_files}
-use Rattle.leveldb_version.specs.VersionEdit.{new_file_of}
+use Rattle.leveldb_version.proofs.Compactions.InputsLemmas.{borrowed_at, borrowed_length, counted_all, counted_on, counted_past}
+use Rattle.leveldb_version.specs.Compactions.Inputs.{IsCountPast}
+use Rattle.leveldb_version.specs.Versions.Version.{borrowed_files}
+use Rattle.leveldb_version.specs.Edits.VersionEdit.{new_file_of}
 use Rattle.leveldb_version.proofs.compaction.pick.count_past.Goals as goal
 
 pub returns-then-file-left : goal.returns-then-file-left

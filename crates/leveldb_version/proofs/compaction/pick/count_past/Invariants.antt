@@ -1,6 +1,6 @@
 use Rattle.std.proofs.Common.{◌≡◌}
-use Rattle.leveldb_version.specs.Version.{borrowed_files}
-use Rattle.leveldb_version.proofs.InputsLemmas.{AreCountedTo}
+use Rattle.leveldb_version.specs.Versions.Version.{borrowed_files}
+use Rattle.leveldb_version.proofs.Compactions.InputsLemmas.{AreCountedTo}
 use Rattle.leveldb_version.proofs.compaction.pick.count_past.Given as goal
 
 abbrev pub invariant-loop-file : goal.invariant-loop-file

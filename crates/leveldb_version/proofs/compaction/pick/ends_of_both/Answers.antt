@@ -2,9 +2,9 @@ use Rattle.std.proofs.Common.{◌≡◌, List, [], refl, subst, ap, ℕ}
 use Rattle.std.specs.Borrow.{Bor}
 use Rattle.leveldb_base.specs.CmpLaws.{total_order}
 use Rattle.leveldb_base.specs.declared.types.FileMetaData.{FileMetaData}
-use Rattle.leveldb_version.proofs.InputsLemmas.{within_both, within_one}
-use Rattle.leveldb_version.specs.Inputs.{AreKeyEnds}
-use Rattle.leveldb_version.specs.Version.{borrowed_files}
+use Rattle.leveldb_version.proofs.Compactions.InputsLemmas.{within_both, within_one}
+use Rattle.leveldb_version.specs.Compactions.Inputs.{AreKeyEnds}
+use Rattle.leveldb_version.specs.Versions.Version.{borrowed_files}
 use Rattle.leveldb_version.proofs.compaction.pick.ends_of_both.Goals as goal
 
 pub returns-in-Some-ends_of-clause-ends : goal.returns-in-Some-ends_of-clause-ends

@@ -1,9 +1,10 @@
 use Rattle.std.proofs.Common.{◌∙◌, ◌==◌, ap, map, subst, sym, ℕ, List}
 use Rattle.std.specs.Prelude.{Contains, IfSome, find}
 use Rattle.leveldb_base.specs.declared.types.FileMetaData.{FileMetaData}
-use Rattle.leveldb_version.specs.VersionEdit.{NewFile, new_file_of}
-use Rattle.leveldb_version.proofs.PickingLemmas.{reads_choose, there_in_level}
-use Rattle.leveldb_version.proofs.VersionLemmas.{at_level_map}
+use Rattle.leveldb_files.specs.Edits.Edit.{NewFile}
+use Rattle.leveldb_version.specs.Edits.VersionEdit.{new_file_of}
+use Rattle.leveldb_version.proofs.Compactions.PickingLemmas.{reads_choose, there_in_level}
+use Rattle.leveldb_version.proofs.Versions.VersionLemmas.{at_level_map}
 use Rattle.leveldb_version.proofs.compaction.pick.file_by_reads.Goals as goal
 
 pub returns-then-level-lt6-clause-there : goal.returns-then-level-lt6-clause-there

@@ -1,8 +1,9 @@
 use Rattle.std.proofs.Common.{◌==◌, Bool, sym}
 use Rattle.std.proofs.lemmas.Bool.{eq-eqb, eqb-true}
 use Rattle.leveldb_base.proofs.OrderLemmas.{is_false}
-use Rattle.leveldb_version.specs.VersionEdit.{NewFile, new_file_of}
-use Rattle.leveldb_version.proofs.OverlapLemmas.{find_here, find_next}
+use Rattle.leveldb_files.specs.Edits.Edit.{NewFile}
+use Rattle.leveldb_version.specs.Edits.VersionEdit.{new_file_of}
+use Rattle.leveldb_files.proofs.Levels.OverlapLemmas.{find_here, find_next}
 use Rattle.leveldb_version.proofs.compaction.pick.file_of_number.Goals as goal
 
 pub returns-then-file-number-clause-value : goal.returns-then-file-number-clause-value

@@ -1,8 +1,9 @@
 use Rattle.std.proofs.Common.{◌≡◌, ◌∙◌, Bool, List, ap, sym, ℕ}
 use Rattle.std.specs.Ordering.{is_gt}
 use Rattle.leveldb_base.specs.KeyTypes.{internal_cmp}
-use Rattle.leveldb_version.specs.VersionEdit.{NewFile, new_file_of}
-use Rattle.leveldb_version.proofs.OverlapLemmas.{find_here, find_next}
+use Rattle.leveldb_files.specs.Edits.Edit.{NewFile}
+use Rattle.leveldb_version.specs.Edits.VersionEdit.{new_file_of}
+use Rattle.leveldb_files.proofs.Levels.OverlapLemmas.{find_here, find_next}
 use Rattle.leveldb_version.proofs.compaction.pick.first_ending_after.Goals as goal
 
 pub returns-then-is_gt-clause-value : goal.returns-then-is_gt-clause-value

@@ -3,9 +3,10 @@ use Rattle.std.proofs.lemmas.Bool.{eq-eqb, eqb-true}
 use Rattle.std.proofs.lemmas.List.{map_push, take_more}
 use Rattle.std.specs.Option.{option_copied}
 use Rattle.leveldb_base.proofs.OrderLemmas.{is_false}
-use Rattle.leveldb_version.specs.VersionEdit.{Pointer, pointer_of}
-use Rattle.leveldb_version.specs.VersionSet.{pointer_at}
-use Rattle.leveldb_version.proofs.PickingLemmas.{pointer_more}
+use Rattle.leveldb_files.specs.Edits.Edit.{Pointer}
+use Rattle.leveldb_version.specs.Edits.VersionEdit.{pointer_of}
+use Rattle.leveldb_files.specs.Edits.VersionSet.{pointer_at}
+use Rattle.leveldb_version.proofs.Compactions.PickingLemmas.{pointer_more}
 use Rattle.leveldb_version.proofs.compaction.pick.last_pointer.Goals as goal
 use Rattle.leveldb_version.proofs.compaction.pick.last_pointer.Goals.{then-pointer-level, else-pointer-level}
 

@@ -5,11 +5,11 @@ use Rattle.std.specs.Global.{Global}
 use Rattle.std.specs.Prelude.{Contains}
 use Rattle.leveldb_base.specs.CmpLaws.{total_order}
 use Rattle.leveldb_base.specs.declared.types.FileMetaData.{FileMetaData}
-use Rattle.leveldb_version.proofs.OverlapLemmas.{if_ok_more}
-use Rattle.leveldb_version.proofs.InputsLemmas.{within_left}
-use Rattle.leveldb_version.proofs.PickingLemmas.{if_some_more, seen_is_input}
-use Rattle.leveldb_version.specs.Inputs.{AreWithin, input_files}
-use Rattle.leveldb_version.specs.Version.{borrowed_files, new_files_of}
+use Rattle.leveldb_files.proofs.Levels.OverlapLemmas.{if_ok_more}
+use Rattle.leveldb_version.proofs.Compactions.InputsLemmas.{within_left}
+use Rattle.leveldb_version.proofs.Compactions.PickingLemmas.{if_some_more, seen_is_input}
+use Rattle.leveldb_version.specs.Compactions.Inputs.{AreWithin, input_files}
+use Rattle.leveldb_version.specs.Versions.Version.{borrowed_files, new_files_of}
 use Rattle.leveldb_version.proofs.compaction.pick.wider.Goals as goal
 
 pub returns-clause-keeps : goal.returns-clause-keeps

@@ -1,4 +1,4 @@
-use Rattle.leveldb_version.proofs.ChoosingLemmas.{choices_go_by_sets, chosen_may_be_compacted, widened_are_closed}
+use Rattle.leveldb_version.proofs.Compactions.ChoosingLemmas.{choices_go_by_sets, chosen_may_be_compacted, widened_are_closed}
 use Rattle.leveldb_version.proofs.laws.compactions.chosen_files_may_be_compacted.Goals as goal
 
 pub returns-clause-chosen : goal.returns-clause-chosen

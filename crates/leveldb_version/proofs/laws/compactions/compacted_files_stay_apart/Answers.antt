@@ -1,6 +1,6 @@
-use Rattle.leveldb_version.proofs.ChoosingLemmas.{edited_files_stay_apart, files_are_edited}
-use Rattle.leveldb_version.proofs.CompactedFilesLemmas.{compacted_files_stay_apart}
-use Rattle.leveldb_version.proofs.CompactionLemmas.{outputs_lie_within}
+use Rattle.leveldb_version.proofs.Compactions.ChoosingLemmas.{edited_files_stay_apart, files_are_edited}
+use Rattle.leveldb_version.proofs.Compactions.CompactedFilesLemmas.{compacted_files_stay_apart}
+use Rattle.leveldb_version.proofs.Compactions.CompactionLemmas.{outputs_lie_within}
 use Rattle.leveldb_version.proofs.laws.compactions.compacted_files_stay_apart.Goals as goal
 
 pub returns-clause-within : goal.returns-clause-within

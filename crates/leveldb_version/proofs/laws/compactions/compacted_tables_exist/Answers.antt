@@ -1,4 +1,4 @@
-use Rattle.leveldb_version.proofs.CompactionOutputsLemmas.{fewer_tables_fit, inputs_are_tables, replaced_tables_exist}
+use Rattle.leveldb_version.proofs.Compactions.CompactionOutputsLemmas.{fewer_tables_fit, inputs_are_tables, replaced_tables_exist}
 use Rattle.leveldb_version.proofs.laws.compactions.compacted_tables_exist.Goals as goal
 
 pub returns-clause-inputs : goal.returns-clause-inputs

@@ -1,4 +1,4 @@
-use Rattle.leveldb_version.proofs.ShownFromLemmas.{compactions_keep_shown, shown_is_kept}
+use Rattle.leveldb_version.proofs.Compactions.ShownFromLemmas.{compactions_keep_shown, shown_is_kept}
 use Rattle.leveldb_version.proofs.laws.compactions.compacted_tables_show_the_same.Goals as goal
 
 pub returns-clause-keeps : goal.returns-clause-keeps

@@ -1,5 +1,5 @@
-use Rattle.leveldb_version.proofs.CompactionEditLemmas.{compactions_are_logged, live_tables_are_known, made_outputs_compact, moves_compact}
-use Rattle.leveldb_version.proofs.EditLoggedLemmas.{edits_are_logged}
+use Rattle.leveldb_version.proofs.Compactions.CompactionEditLemmas.{compactions_are_logged, live_tables_are_known, made_outputs_compact, moves_compact}
+use Rattle.leveldb_version.proofs.Sets.EditLoggedLemmas.{edits_are_logged}
 use Rattle.leveldb_version.proofs.laws.compactions.compactions_are_logged.Goals as goal
 
 pub returns-clause-edits : goal.returns-clause-edits

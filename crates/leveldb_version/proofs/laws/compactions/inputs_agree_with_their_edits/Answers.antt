@@ -1,4 +1,4 @@
-use Rattle.leveldb_version.proofs.ContradictionLemmas.{agree_or_contradict, agreed_files_lie_within, cut_files_are_apart, tables_agree_with_edits}
+use Rattle.leveldb_version.proofs.Compactions.ContradictionLemmas.{agree_or_contradict, agreed_files_lie_within, cut_files_are_apart, tables_agree_with_edits}
 use Rattle.leveldb_version.proofs.laws.compactions.inputs_agree_with_their_edits.Goals as goal
 
 pub returns-clause-one : goal.returns-clause-one

@@ -1,4 +1,4 @@
-use Rattle.leveldb_version.proofs.CompactionOutputsLemmas.{drops_go_by_sets, one_merge_is_left, thinned_tables_drop_all}
+use Rattle.leveldb_version.proofs.Compactions.CompactionOutputsLemmas.{drops_go_by_sets, one_merge_is_left, thinned_tables_drop_all}
 use Rattle.leveldb_version.proofs.laws.compactions.merged_tables_drop_what_may_go.Goals as goal
 
 pub returns-clause-sets : goal.returns-clause-sets

@@ -1,4 +1,4 @@
-use Rattle.leveldb_version.proofs.CompactionOutputsLemmas.{cuts_are_apart, cuts_grow, keys_are_cut}
+use Rattle.leveldb_version.proofs.Compactions.CompactionOutputsLemmas.{cuts_are_apart, cuts_grow, keys_are_cut}
 use Rattle.leveldb_version.proofs.laws.compactions.outputs_are_cut_between_keys.Goals as goal
 
 pub returns-clause-apart : goal.returns-clause-apart

@@ -1,4 +1,4 @@
-use Rattle.leveldb_version.proofs.CompactionLemmas.{ranges_tell_base_level, test_tells_base_level}
+use Rattle.leveldb_version.proofs.Compactions.CompactionLemmas.{ranges_tell_base_level, test_tells_base_level}
 use Rattle.leveldb_version.proofs.laws.compactions.ranges_tell_base_levels.Goals as goal
 
 pub returns-clause-tables : goal.returns-clause-tables

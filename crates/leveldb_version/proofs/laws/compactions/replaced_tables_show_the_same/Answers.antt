@@ -1,4 +1,4 @@
-use Rattle.leveldb_version.proofs.ReplacingLemmas.{replacing_refines, swaps_replace, switches_replace}
+use Rattle.leveldb_version.proofs.Compactions.ReplacingLemmas.{replacing_refines, swaps_replace, switches_replace}
 use Rattle.leveldb_version.proofs.laws.compactions.replaced_tables_show_the_same.Goals as goal
 
 pub returns-clause-refines : goal.returns-clause-refines

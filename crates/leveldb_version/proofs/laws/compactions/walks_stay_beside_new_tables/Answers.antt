@@ -1,4 +1,4 @@
-use Rattle.leveldb_version.proofs.WalksBesideLemmas.{walks_stay_beside}
+use Rattle.leveldb_version.proofs.Walks.WalksBesideLemmas.{walks_stay_beside}
 use Rattle.leveldb_version.proofs.laws.compactions.walks_stay_beside_new_tables.Goals as goal
 
 pub returns : goal.returns

@@ -1,7 +1,7 @@
 use Rattle.std.specs.Prelude.{nat_le}
 use Rattle.std.proofs.Common.{◌&&◌, ◌∙◌, ap, length, refl}
 use Rattle.leveldb_base.specs.KeyTypes.{user_part}
-use Rattle.leveldb_version.proofs.VersionLayersLemmas.{version_iters_are_layers}
+use Rattle.leveldb_version.proofs.Walks.VersionLayersLemmas.{version_iters_are_layers}
 use Rattle.leveldb_version.proofs.laws.iters.version_iters_are_layers.Goals as goal
 
 pub returns-clause-layers : goal.returns-clause-layers

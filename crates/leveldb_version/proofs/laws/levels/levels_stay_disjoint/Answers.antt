@@ -1,4 +1,4 @@
-use Rattle.leveldb_version.proofs.DisjointLemmas.{fewer_disjoint, picked_disjoint, usable_disjoint}
+use Rattle.leveldb_version.proofs.Versions.DisjointLemmas.{fewer_disjoint, picked_disjoint, usable_disjoint}
 use Rattle.leveldb_version.proofs.laws.levels.levels_stay_disjoint.Goals as goal
 
 pub returns : goal.returns

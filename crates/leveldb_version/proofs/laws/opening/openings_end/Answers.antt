@@ -1,4 +1,4 @@
-use Rattle.leveldb_version.proofs.OpeningEndLemmas.{openings_end}
+use Rattle.leveldb_version.proofs.Engines.OpeningEndLemmas.{openings_end}
 use Rattle.leveldb_version.proofs.laws.opening.openings_end.Goals as goal
 
 pub returns : goal.returns

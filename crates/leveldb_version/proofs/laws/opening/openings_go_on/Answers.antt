@@ -1,4 +1,4 @@
-use Rattle.leveldb_version.proofs.OpeningEndLemmas.{openings_go_on}
+use Rattle.leveldb_version.proofs.Engines.OpeningEndLemmas.{openings_go_on}
 use Rattle.leveldb_version.proofs.laws.opening.openings_go_on.Goals as goal
 
 pub returns : goal.returns

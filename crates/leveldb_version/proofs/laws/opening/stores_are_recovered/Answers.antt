@@ -1,4 +1,4 @@
-use Rattle.leveldb_version.proofs.RecoveringLemmas.{recovered_sets_track, safe_stores_keep_tables, stores_are_recovered}
+use Rattle.leveldb_version.proofs.Engines.RecoveringLemmas.{recovered_sets_track, safe_stores_keep_tables, stores_are_recovered}
 use Rattle.leveldb_version.proofs.laws.opening.stores_are_recovered.Goals as goal
 
 pub returns : goal.returns

@@ -1,4 +1,4 @@
-use Rattle.leveldb_version.proofs.RecoveringLemmas.{recovered_after_new_log, recovered_given, recovered_numbered, recovered_synced, recovered_unread}
+use Rattle.leveldb_version.proofs.Engines.RecoveringLemmas.{recovered_after_new_log, recovered_given, recovered_numbered, recovered_synced, recovered_unread}
 use Rattle.leveldb_version.proofs.laws.opening.stores_stay_recovered.Goals as goal
 
 pub returns : goal.returns

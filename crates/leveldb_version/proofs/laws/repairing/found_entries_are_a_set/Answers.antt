@@ -1,5 +1,5 @@
-use Rattle.leveldb_version.proofs.FoundLemmas.{found_goes_by_bytes, one_found_log, one_found_set}
-use Rattle.leveldb_version.proofs.RepairingFoundLemmas.{one_readable_table}
+use Rattle.leveldb_version.proofs.Repairs.FoundLemmas.{found_goes_by_bytes, one_found_log, one_found_set}
+use Rattle.leveldb_version.proofs.Repairs.RepairingFoundLemmas.{one_readable_table}
 use Rattle.leveldb_version.proofs.laws.repairing.found_entries_are_a_set.Goals as goal
 
 pub returns-clause-log : goal.returns-clause-log

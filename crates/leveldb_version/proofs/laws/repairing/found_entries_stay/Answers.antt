@@ -1,4 +1,4 @@
-use Rattle.leveldb_version.proofs.RepairingFoundLemmas.{crash_leaves_found, found_stays}
+use Rattle.leveldb_version.proofs.Repairs.RepairingFoundLemmas.{crash_leaves_found, found_stays}
 use Rattle.leveldb_version.proofs.laws.repairing.found_entries_stay.Goals as goal
 
 pub returns-clause-meanwhile : goal.returns-clause-meanwhile

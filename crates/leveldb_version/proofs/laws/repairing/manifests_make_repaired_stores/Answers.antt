@@ -1,5 +1,5 @@
-use Rattle.leveldb_version.proofs.RepairingKeepsLemmas.{manifests_go_on}
-use Rattle.leveldb_version.proofs.RepairingLemmas.{manifest_repairs}
+use Rattle.leveldb_version.proofs.Repairs.RepairingKeepsLemmas.{manifests_go_on}
+use Rattle.leveldb_version.proofs.Repairs.RepairingLemmas.{manifest_repairs}
 use Rattle.leveldb_version.proofs.laws.repairing.manifests_make_repaired_stores.Goals as goal
 
 pub returns-clause-made : goal.returns-clause-made

@@ -1,4 +1,4 @@
-use Rattle.leveldb_version.proofs.RepairingLemmas.{repaired_holds, repaired_is_kept}
+use Rattle.leveldb_version.proofs.Repairs.RepairingLemmas.{repaired_holds, repaired_is_kept}
 use Rattle.leveldb_version.proofs.laws.repairing.repaired_stores_hold_a_set.Goals as goal
 
 pub returns-clause-kept : goal.returns-clause-kept

@@ -1,5 +1,5 @@
-use Rattle.leveldb_version.proofs.RepairingKeepsLemmas.{repair_keeps}
-use Rattle.leveldb_version.proofs.RepairingLemmas.{repairs_hold}
+use Rattle.leveldb_version.proofs.Repairs.RepairingKeepsLemmas.{repair_keeps}
+use Rattle.leveldb_version.proofs.Repairs.RepairingLemmas.{repairs_hold}
 use Rattle.leveldb_version.proofs.laws.repairing.repairs_keep_histories.Goals as goal
 use Rattle.std.proofs.Common.{◌+◌}
 

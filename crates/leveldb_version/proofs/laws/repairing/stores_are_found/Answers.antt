@@ -1,4 +1,4 @@
-use Rattle.leveldb_version.proofs.RepairingFoundLemmas.{filters_are_ignored, found_shows_the_same, stores_are_found, table_is_readable}
+use Rattle.leveldb_version.proofs.Repairs.RepairingFoundLemmas.{filters_are_ignored, found_shows_the_same, stores_are_found, table_is_readable}
 use Rattle.leveldb_version.proofs.laws.repairing.stores_are_found.Goals as goal
 
 pub returns-clause-contents : goal.returns-clause-contents

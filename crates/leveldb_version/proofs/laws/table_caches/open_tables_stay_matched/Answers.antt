@@ -1,4 +1,4 @@
-use Rattle.leveldb_version.proofs.TableCacheLemmas.{matches_changed, matches_closed}
+use Rattle.leveldb_version.proofs.Tables.TableCacheLemmas.{matches_changed, matches_closed}
 use Rattle.leveldb_version.proofs.laws.table_caches.open_tables_stay_matched.Goals as goal
 
 pub returns : goal.returns

@@ -1,4 +1,4 @@
-use Rattle.leveldb_version.proofs.TableCacheLemmas.{AreSameOrGone-fewer, AreSameOrGone-refl, AreSameOrGone-trans, ClosesTables-refl, ClosesTables-trans}
+use Rattle.leveldb_version.proofs.Tables.TableCacheLemmas.{AreSameOrGone-fewer, AreSameOrGone-refl, AreSameOrGone-trans, ClosesTables-refl, ClosesTables-trans}
 use Rattle.leveldb_version.proofs.laws.table_caches.tables_close_in_turn.Goals as goal
 
 pub returns : goal.returns

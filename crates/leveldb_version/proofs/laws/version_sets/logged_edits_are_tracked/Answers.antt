@@ -1,5 +1,5 @@
-use Rattle.leveldb_version.proofs.NewManifestKeepsLemmas.{begun_is_tracked}
-use Rattle.leveldb_version.proofs.TracksLemmas.{appended_is_tracked, stays_tracked}
+use Rattle.leveldb_version.proofs.Sets.NewManifestKeepsLemmas.{begun_is_tracked}
+use Rattle.leveldb_version.proofs.Sets.TracksLemmas.{appended_is_tracked, stays_tracked}
 use Rattle.leveldb_version.proofs.laws.version_sets.logged_edits_are_tracked.Goals as goal
 
 pub returns : goal.returns

@@ -1,5 +1,5 @@
-use Rattle.leveldb_version.proofs.LogKeepsLemmas.{appended_edits_keep}
-use Rattle.leveldb_version.proofs.NewManifestKeepsLemmas.{begun_edits_keep}
+use Rattle.leveldb_version.proofs.Sets.LogKeepsLemmas.{appended_edits_keep}
+use Rattle.leveldb_version.proofs.Sets.NewManifestKeepsLemmas.{begun_edits_keep}
 use Rattle.leveldb_version.proofs.laws.version_sets.logged_edits_keep_histories.Goals as goal
 
 pub returns : goal.returns

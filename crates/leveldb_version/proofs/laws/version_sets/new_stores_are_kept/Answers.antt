@@ -1,4 +1,4 @@
-use Rattle.leveldb_version.proofs.NewStoreLemmas.{new_store_is_kept}
+use Rattle.leveldb_version.proofs.Sets.NewStoreLemmas.{new_store_is_kept}
 use Rattle.leveldb_version.proofs.laws.version_sets.new_stores_are_kept.Goals as goal
 
 pub returns : goal.returns

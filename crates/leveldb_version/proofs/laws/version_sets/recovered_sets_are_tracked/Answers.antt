@@ -1,4 +1,4 @@
-use Rattle.leveldb_version.proofs.TracksLemmas.{going_on_is_tracked, starting_anew_is_tracked}
+use Rattle.leveldb_version.proofs.Sets.TracksLemmas.{going_on_is_tracked, starting_anew_is_tracked}
 use Rattle.leveldb_version.proofs.laws.version_sets.recovered_sets_are_tracked.Goals as goal
 
 pub returns : goal.returns

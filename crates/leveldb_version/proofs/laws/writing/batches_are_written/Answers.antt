@@ -1,4 +1,4 @@
-use Rattle.leveldb_version.proofs.BatchWrittenLemmas.{batch_is_written, synced_log_is_durable}
+use Rattle.leveldb_version.proofs.Engines.BatchWrittenLemmas.{batch_is_written, synced_log_is_durable}
 use Rattle.leveldb_version.proofs.laws.writing.batches_are_written.Goals as goal
 
 pub returns : goal.returns

@@ -1,4 +1,4 @@
-use Rattle.leveldb_version.proofs.WrittenLemmas.{new_table_unread, obsolete_is_unread}
+use Rattle.leveldb_version.proofs.Engines.WrittenLemmas.{new_table_unread, obsolete_is_unread}
 use Rattle.leveldb_version.proofs.laws.writing.files_beside_an_open_store.Goals as goal
 
 pub returns : goal.returns

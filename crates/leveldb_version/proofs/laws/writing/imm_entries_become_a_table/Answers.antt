@@ -1,4 +1,4 @@
-use Rattle.leveldb_version.proofs.ImmLemmas.{imm_becomes_table, imm_may_go_to_level_zero}
+use Rattle.leveldb_version.proofs.Engines.ImmLemmas.{imm_becomes_table, imm_may_go_to_level_zero}
 use Rattle.leveldb_version.proofs.laws.writing.imm_entries_become_a_table.Goals as goal
 
 pub returns : goal.returns

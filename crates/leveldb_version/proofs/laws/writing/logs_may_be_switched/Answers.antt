@@ -1,4 +1,4 @@
-use Rattle.leveldb_version.proofs.SwitchLogLemmas.{new_log_written}
+use Rattle.leveldb_version.proofs.Engines.SwitchLogLemmas.{new_log_written}
 use Rattle.leveldb_version.proofs.laws.writing.logs_may_be_switched.Goals as goal
 
 pub returns : goal.returns

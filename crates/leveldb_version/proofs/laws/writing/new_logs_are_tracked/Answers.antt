@@ -1,4 +1,4 @@
-use Rattle.leveldb_version.proofs.SwitchLogLemmas.{tracked_after_new_log}
+use Rattle.leveldb_version.proofs.Engines.SwitchLogLemmas.{tracked_after_new_log}
 use Rattle.leveldb_version.proofs.laws.writing.new_logs_are_tracked.Goals as goal
 
 pub returns : goal.returns

@@ -1,4 +1,4 @@
-use Rattle.leveldb_version.proofs.TrackedLemmas.{live_is_below, next_is_free, numbered_up_to}
+use Rattle.leveldb_version.proofs.Sets.TrackedLemmas.{live_is_below, next_is_free, numbered_up_to}
 use Rattle.leveldb_version.proofs.laws.writing.new_numbers_are_free.Goals as goal
 
 pub returns : goal.returns

@@ -1,4 +1,4 @@
-use Rattle.leveldb_version.proofs.ShownLemmas.{written_is_shown}
+use Rattle.leveldb_version.proofs.Engines.ShownLemmas.{written_is_shown}
 use Rattle.leveldb_version.proofs.laws.writing.open_stores_show_their_history.Goals as goal
 
 pub returns : goal.returns

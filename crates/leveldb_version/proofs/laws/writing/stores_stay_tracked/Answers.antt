@@ -1,4 +1,4 @@
-use Rattle.leveldb_version.proofs.TrackedLemmas.{tracked_given, tracked_synced, tracked_unread}
+use Rattle.leveldb_version.proofs.Sets.TrackedLemmas.{tracked_given, tracked_synced, tracked_unread}
 use Rattle.leveldb_version.proofs.laws.writing.stores_stay_tracked.Goals as goal
 
 pub returns : goal.returns

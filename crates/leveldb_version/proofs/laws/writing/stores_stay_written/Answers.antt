@@ -1,4 +1,4 @@
-use Rattle.leveldb_version.proofs.WrittenLemmas.{written_given, written_synced, written_unread}
+use Rattle.leveldb_version.proofs.Engines.WrittenLemmas.{written_given, written_synced, written_unread}
 use Rattle.leveldb_version.proofs.laws.writing.stores_stay_written.Goals as goal
 
 pub returns : goal.returns

@@ -1,4 +1,4 @@
-use Rattle.leveldb_version.proofs.ShownLemmas.{same_memory_shows, new_table_is_shown}
+use Rattle.leveldb_version.proofs.Engines.ShownLemmas.{same_memory_shows, new_table_is_shown}
 use Rattle.leveldb_version.proofs.laws.writing.tables_show_what_waited.Goals as goal
 
 pub returns : goal.returns

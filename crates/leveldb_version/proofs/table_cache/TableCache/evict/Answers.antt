@@ -1,8 +1,8 @@
 use Rattle.std.proofs.Common.{◌∙◌, ap}
 use Rattle.std.specs.Prelude.{is_some}
 use Rattle.leveldb_table.specs.Cache.{others, value_of}
-use Rattle.leveldb_version.specs.TableCache.{tables_of}
-use Rattle.leveldb_version.proofs.TableCacheCallLemmas.{evicted}
+use Rattle.leveldb_version.specs.Tables.TableCache.{tables_of}
+use Rattle.leveldb_version.proofs.Tables.TableCacheCallLemmas.{evicted}
 use Rattle.leveldb_version.proofs.table_cache.TableCache.evict.Goals as goal
 
 pub returns : goal.returns

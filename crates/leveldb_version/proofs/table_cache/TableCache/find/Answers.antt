@@ -5,10 +5,10 @@ use Rattle.leveldb_env.specs.contracts.compressor.CompressorListCompressors.TheI
 use Rattle.leveldb_table.specs.Cache.{looked_for, value_of}
 use Rattle.leveldb_table.specs.TableReaderMoves.{found_with}
 use Rattle.leveldb_table.proofs.TableReaderMovesLemmas.{found_refused}
-use Rattle.leveldb_version.specs.Format.{format_of}
-use Rattle.leveldb_version.specs.TableCache.{table_at, table_key, table_options, tables_of}
-use Rattle.leveldb_version.proofs.TableCacheLemmas.{none_value}
-use Rattle.leveldb_version.proofs.TableCacheCallLemmas.{gets_looked, gets_open, gets_unkept, gets_unopened, in_open, opens_before, put_found, put_none, uses_looked, uses_open, uses_unkept, uses_unopened}
+use Rattle.leveldb_files.specs.Stores.Format.{format_of}
+use Rattle.leveldb_version.specs.Tables.TableCache.{table_at, table_key, table_options, tables_of}
+use Rattle.leveldb_version.proofs.Tables.TableCacheLemmas.{none_value}
+use Rattle.leveldb_version.proofs.Tables.TableCacheCallLemmas.{gets_looked, gets_open, gets_unkept, gets_unopened, in_open, opens_before, put_found, put_none, uses_looked, uses_open, uses_unkept, uses_unopened}
 use Rattle.leveldb_version.proofs.table_cache.TableCache.find.Goals as goal
 
 pub returns-in-Some : goal.returns-in-Some

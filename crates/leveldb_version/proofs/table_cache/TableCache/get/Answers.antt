@@ -1,4 +1,4 @@
-use Rattle.leveldb_version.proofs.TableCacheCallLemmas.{gets_refused, gets_uncopied, looks_refused, uses_uncopied}
+use Rattle.leveldb_version.proofs.Tables.TableCacheCallLemmas.{gets_refused, gets_uncopied, looks_refused, uses_uncopied}
 use Rattle.leveldb_version.proofs.table_cache.TableCache.get.Goals as goal
 
 pub returns-in_err-value-clause-in_open : goal.returns-in_err-value-clause-in_open

@@ -3,8 +3,8 @@ use Rattle.std.specs.Prelude.{option_copied}
 use Rattle.leveldb_base.proofs.HistoryLemmas.{exact_order}
 use Rattle.leveldb_env.specs.contracts.compressor.CompressorListCompressors.TheImpl.{ghosts as compressors}
 use Rattle.leveldb_table.specs.Cache.{value_of}
-use Rattle.leveldb_version.specs.TableCache.{options_by, table_at, tables_of}
-use Rattle.leveldb_version.proofs.TableMoveLemmas.{moves_open, moves_reopened, moves_unopened, moves_unreopened}
+use Rattle.leveldb_version.specs.Tables.TableCache.{options_by, table_at, tables_of}
+use Rattle.leveldb_version.proofs.Tables.TableMoveLemmas.{moves_open, moves_reopened, moves_unopened, moves_unreopened}
 use Rattle.leveldb_version.proofs.table_cache.TableCache.move_core.Goals as goal
 
 pub returns-in-Err : goal.returns-in-Err

@@ -1,9 +1,9 @@
 use Rattle.std.proofs.Common.{◌≡◌, ◌∙◌, Err, ap, inr}
 use Rattle.leveldb_env.specs.contracts.compressor.CompressorListCompressors.TheImpl.{ghosts as compressors}
 use Rattle.leveldb_table.proofs.TableBlockLemmas.{reads_weaker}
-use Rattle.leveldb_version.specs.Paths.{table_path}
-use Rattle.leveldb_version.specs.TableCache.{path_at, store_of, options_by}
-use Rattle.leveldb_version.proofs.TableCacheLemmas.{numbered, numbered_err, renewed_store, unopened_file}
+use Rattle.leveldb_files.specs.Stores.Paths.{table_path}
+use Rattle.leveldb_version.specs.Tables.TableCache.{path_at, store_of, options_by}
+use Rattle.leveldb_version.proofs.Tables.TableCacheLemmas.{numbered, numbered_err, renewed_store, unopened_file}
 use Rattle.leveldb_version.proofs.table_cache.TableCache.open_by.Goals as goal
 
 pub returns-in_err-file : goal.returns-in_err-file

@@ -3,9 +3,9 @@ use Rattle.std.specs.Prelude.{IsSome}
 use Rattle.leveldb_base.specs.contracts.cmp.internal.InternalKeyCmpCmp.TheImpl.{ghosts as key_order}
 use Rattle.leveldb_env.specs.contracts.compressor.CompressorListCompressors.TheImpl.{ghosts as compressors}
 use Rattle.leveldb_table.specs.Cache.{looked_for, value_of}
-use Rattle.leveldb_version.specs.TableCache.{table_at, options_by, tables_of}
-use Rattle.leveldb_version.proofs.TableCacheLemmas.{some_of}
-use Rattle.leveldb_version.proofs.TableCacheCallLemmas.{borrowed_none, borrowed_there, opened_new, opens_before, opens_unopened, stays_open}
+use Rattle.leveldb_version.specs.Tables.TableCache.{table_at, options_by, tables_of}
+use Rattle.leveldb_version.proofs.Tables.TableCacheLemmas.{some_of}
+use Rattle.leveldb_version.proofs.Tables.TableCacheCallLemmas.{borrowed_none, borrowed_there, opened_new, opens_before, opens_unopened, stays_open}
 use Rattle.leveldb_version.proofs.table_cache.TableCache.open_table_by.Goals as goal
 
 pub returns-then-is_some : goal.returns-then-is_some

@@ -1,5 +1,5 @@
 use Rattle.std.proofs.Common.{◌≡◌, None, Option, refl, subst, sym}
-use Rattle.leveldb_version.specs.TableMoves.{IsWalkIn, stepped}
+use Rattle.leveldb_version.specs.Tables.TableMoves.{IsWalkIn, stepped}
 use Rattle.leveldb_version.proofs.table_cache.moves.step_in.Goals as goal
 
 pub returns-in-Some : goal.returns-in-Some

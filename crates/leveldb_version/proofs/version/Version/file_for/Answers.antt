@@ -2,11 +2,12 @@ use Rattle.std.proofs.Common.{◌≡◌, ◌∙◌, List, ap, map, subst}
 use Rattle.std.specs.Option.{option_copied, option_map}
 use Rattle.std.specs.List.Sorted.{IsSortedByKey}
 use Rattle.leveldb_base.specs.KeyTypes.{internal_cmp}
-use Rattle.leveldb_version.specs.Overlap.{AreDisjointRanges, IsFileFor}
-use Rattle.leveldb_version.specs.Summary.{files_of_level}
-use Rattle.leveldb_version.specs.Version.{AreInVersionOrder, VersionValue, new_files_of}
-use Rattle.leveldb_version.specs.VersionEdit.{NewFile, new_file_of}
-use Rattle.leveldb_version.proofs.VersionLemmas.{at_level_map, keys_rise}
+use Rattle.leveldb_files.specs.Levels.Overlap.{AreDisjointRanges, IsFileFor}
+use Rattle.leveldb_files.specs.Levels.Summary.{files_of_level}
+use Rattle.leveldb_version.specs.Versions.Version.{AreInVersionOrder, VersionValue, new_files_of}
+use Rattle.leveldb_files.specs.Edits.Edit.{NewFile}
+use Rattle.leveldb_version.specs.Edits.VersionEdit.{new_file_of}
+use Rattle.leveldb_version.proofs.Versions.VersionLemmas.{at_level_map, keys_rise}
 use Rattle.leveldb_version.proofs.version.Version.file_for.Goals as goal
 
 pub returns : goal.returns

@@ -2,10 +2,10 @@ use Rattle.std.proofs.Common.{◌≡◌, ◌∙◌, List, ap, map, subst, sym, �
 use Rattle.std.specs.List.Sorted.{IsNonDecreasingBy}
 use Rattle.leveldb_base.specs.CmpLaws.{total_order}
 use Rattle.leveldb_base.specs.declared.types.FileMetaData.{FileMetaData}
-use Rattle.leveldb_version.specs.Summary.{files_of_level}
-use Rattle.leveldb_version.specs.Version.{AreInVersionOrder, VersionValue, at_level}
-use Rattle.leveldb_version.specs.VersionEdit.{new_file_of}
-use Rattle.leveldb_version.proofs.VersionLemmas.{at_level_map, level_in_order, levels_rise}
+use Rattle.leveldb_files.specs.Levels.Summary.{files_of_level}
+use Rattle.leveldb_version.specs.Versions.Version.{AreInVersionOrder, VersionValue, at_level}
+use Rattle.leveldb_version.specs.Edits.VersionEdit.{new_file_of}
+use Rattle.leveldb_version.proofs.Versions.VersionLemmas.{at_level_map, level_in_order, levels_rise}
 use Rattle.leveldb_version.proofs.version.Version.files.Goals as goal
 
 pub part_of_level-requires : goal.part_of_level-requires

@@ -5,14 +5,15 @@ use Rattle.std.specs.declared.cmp.Ordering.{Ordering}
 use Rattle.leveldb_base.proofs.HistoryLemmas.{exact_order}
 use Rattle.leveldb_base.specs.declared.types.FileMetaData.{FileMetaData}
 use Rattle.leveldb_env.specs.contracts.compressor.CompressorListCompressors.TheImpl.{ghosts as compressors}
-use Rattle.leveldb_version.specs.Format.{format_of}
-use Rattle.leveldb_version.specs.Search.{TakesNextFile, files_left}
-use Rattle.leveldb_version.specs.TableCache.{table_options}
-use Rattle.leveldb_version.specs.Version.{AreInVersionOrder, VersionValue, new_files_of}
-use Rattle.leveldb_version.specs.VersionEdit.{NewFile, new_file_of}
-use Rattle.leveldb_version.proofs.GetLemmas.{ends_there, goes_on_without, not_begun, stops_unread, stops_with}
-use Rattle.leveldb_version.proofs.SearchLemmas.{each_fits, fewer_left}
-use Rattle.leveldb_version.proofs.VersionLemmas.{levels_rise}
+use Rattle.leveldb_files.specs.Stores.Format.{format_of}
+use Rattle.leveldb_version.specs.Versions.Search.{TakesNextFile, files_left}
+use Rattle.leveldb_version.specs.Tables.TableCache.{table_options}
+use Rattle.leveldb_version.specs.Versions.Version.{AreInVersionOrder, VersionValue, new_files_of}
+use Rattle.leveldb_files.specs.Edits.Edit.{NewFile}
+use Rattle.leveldb_version.specs.Edits.VersionEdit.{new_file_of}
+use Rattle.leveldb_version.proofs.Versions.GetLemmas.{ends_there, goes_on_without, not_begun, stops_unread, stops_with}
+use Rattle.leveldb_version.proofs.Versions.SearchLemmas.{each_fits, fewer_left}
+use Rattle.leveldb_version.proofs.Versions.VersionLemmas.{levels_rise}
 use Rattle.leveldb_version.proofs.version.Version.get.Goals as goal
 
 pub new-files-requires : goal.new-files-requires

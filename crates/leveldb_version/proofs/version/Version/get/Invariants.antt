@@ -1,10 +1,10 @@
 use Rattle.std.proofs.Common.{length}
 use Rattle.leveldb_base.specs.contracts.cmp.internal.InternalKeyCmpCmp.TheImpl.{ghosts as key_order}
 use Rattle.leveldb_env.specs.contracts.compressor.CompressorListCompressors.TheImpl.{ghosts as compressors}
-use Rattle.leveldb_version.specs.Format.{format_of}
-use Rattle.leveldb_version.specs.Search.{files_left}
-use Rattle.leveldb_version.specs.TableCache.{table_options}
-use Rattle.leveldb_version.proofs.GetLemmas.{SearchedSoFar}
+use Rattle.leveldb_files.specs.Stores.Format.{format_of}
+use Rattle.leveldb_version.specs.Versions.Search.{files_left}
+use Rattle.leveldb_version.specs.Tables.TableCache.{table_options}
+use Rattle.leveldb_version.proofs.Versions.GetLemmas.{SearchedSoFar}
 use Rattle.leveldb_version.proofs.version.Version.get.Given as goal
 
 -- nothing is found in the tables that were looked in

@@ -1,7 +1,7 @@
 use Rattle.std.proofs.Common.{subst}
-use Rattle.leveldb_version.specs.Overlap.{AreInputs, UserRange}
-use Rattle.leveldb_version.specs.Version.{borrowed_files, new_files_of}
-use Rattle.leveldb_version.proofs.OverlapLemmas.{if_ok_more}
+use Rattle.leveldb_files.specs.Levels.Overlap.{AreInputs, UserRange}
+use Rattle.leveldb_version.specs.Versions.Version.{borrowed_files, new_files_of}
+use Rattle.leveldb_files.proofs.Levels.OverlapLemmas.{if_ok_more}
 use Rattle.leveldb_version.proofs.version.Version.inputs_between.Goals as goal
 
 pub returns-clause-ok : goal.returns-clause-ok

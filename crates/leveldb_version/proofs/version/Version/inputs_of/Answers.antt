@@ -1,11 +1,12 @@
 use Rattle.std.proofs.Common.{◌≡◌, ◌∙◌, List, ap, map, subst, sym}
 use Rattle.std.specs.List.{filter}
-use Rattle.leveldb_version.specs.Overlap.{AreInputs, IsWidened, overlaps}
-use Rattle.leveldb_version.specs.Summary.{files_of_level}
-use Rattle.leveldb_version.specs.Version.{VersionValue, borrowed_files, new_files_of}
-use Rattle.leveldb_version.specs.VersionEdit.{NewFile, new_file_of}
-use Rattle.leveldb_version.proofs.OverlapLemmas.{if_ok_more, inputs_of_deeper, inputs_of_zero}
-use Rattle.leveldb_version.proofs.VersionLemmas.{at_level_map}
+use Rattle.leveldb_files.specs.Levels.Overlap.{AreInputs, IsWidened, overlaps}
+use Rattle.leveldb_files.specs.Levels.Summary.{files_of_level}
+use Rattle.leveldb_version.specs.Versions.Version.{VersionValue, borrowed_files, new_files_of}
+use Rattle.leveldb_files.specs.Edits.Edit.{NewFile}
+use Rattle.leveldb_version.specs.Edits.VersionEdit.{new_file_of}
+use Rattle.leveldb_files.proofs.Levels.OverlapLemmas.{if_ok_more, inputs_of_deeper, inputs_of_zero}
+use Rattle.leveldb_version.proofs.Versions.VersionLemmas.{at_level_map}
 use Rattle.leveldb_version.proofs.version.Version.inputs_of.Goals as goal
 use Rattle.leveldb_version.proofs.version.Version.inputs_of.Goals.{then-level-eq0, else-level-eq0}
 

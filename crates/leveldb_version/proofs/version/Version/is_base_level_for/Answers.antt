@@ -4,13 +4,14 @@ use Rattle.std.specs.List.Sorted.{IsNonDecreasingBy, IsPartitionPoint}
 use Rattle.std.specs.Prelude.{is_some}
 use Rattle.std.specs.Option.{option_copied, option_map}
 use Rattle.leveldb_base.specs.declared.types.FileMetaData.{FileMetaData}
-use Rattle.leveldb_version.proofs.BaseLevelLemmas.{last_in_order, search_tells, turned_round}
-use Rattle.leveldb_version.proofs.SearchLemmas.{rest_is}
-use Rattle.leveldb_version.proofs.VersionLemmas.{levels_rise}
-use Rattle.leveldb_version.specs.Compaction.{is_base_level_for}
-use Rattle.leveldb_version.specs.Search.{AreDisjointLevels, TakesNextFile, files_left}
-use Rattle.leveldb_version.specs.Version.{AreInVersionOrder, VersionValue, new_files_of}
-use Rattle.leveldb_version.specs.VersionEdit.{NewFile, new_file_of}
+use Rattle.leveldb_version.proofs.Compactions.BaseLevelLemmas.{last_in_order, search_tells, turned_round}
+use Rattle.leveldb_version.proofs.Versions.SearchLemmas.{rest_is}
+use Rattle.leveldb_version.proofs.Versions.VersionLemmas.{levels_rise}
+use Rattle.leveldb_version.specs.Compactions.Compaction.{is_base_level_for}
+use Rattle.leveldb_version.specs.Versions.Search.{AreDisjointLevels, TakesNextFile, files_left}
+use Rattle.leveldb_version.specs.Versions.Version.{AreInVersionOrder, VersionValue, new_files_of}
+use Rattle.leveldb_files.specs.Edits.Edit.{NewFile}
+use Rattle.leveldb_version.specs.Edits.VersionEdit.{new_file_of}
 use Rattle.leveldb_version.proofs.version.Version.is_base_level_for.Goals as goal
 
 pub new-deeper-requires : goal.new-deeper-requires

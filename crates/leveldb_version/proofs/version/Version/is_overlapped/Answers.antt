@@ -1,9 +1,9 @@
 use Rattle.std.proofs.Common.{◌∙◌, ap, map}
 use Rattle.std.specs.List.{list_any}
-use Rattle.leveldb_version.specs.Overlap.{is_overlapped, overlaps}
-use Rattle.leveldb_version.specs.Version.{VersionValue, new_files_of}
-use Rattle.leveldb_version.specs.VersionEdit.{new_file_of}
-use Rattle.leveldb_version.proofs.VersionLemmas.{at_level_map}
+use Rattle.leveldb_files.specs.Levels.Overlap.{is_overlapped, overlaps}
+use Rattle.leveldb_version.specs.Versions.Version.{VersionValue, new_files_of}
+use Rattle.leveldb_version.specs.Edits.VersionEdit.{new_file_of}
+use Rattle.leveldb_version.proofs.Versions.VersionLemmas.{at_level_map}
 use Rattle.leveldb_version.proofs.version.Version.is_overlapped.Goals as goal
 
 pub returns : goal.returns

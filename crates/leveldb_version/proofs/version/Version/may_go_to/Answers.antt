@@ -1,11 +1,11 @@
 use Rattle.std.proofs.Common.{◌≡◌, ◌∙◌, ◌+◌, ap, false, leb, map, not, sym, ℕ}
 use Rattle.std.specs.Prelude.{◌&&◌}
 use Rattle.std.specs.List.{filter}
-use Rattle.leveldb_version.specs.Overlap.{greatest_overlap, is_overlapped, overlapping, overlaps}
-use Rattle.leveldb_version.specs.Summary.{total_size}
-use Rattle.leveldb_version.specs.Version.{VersionValue, new_files_of}
-use Rattle.leveldb_version.specs.VersionEdit.{new_file_of}
-use Rattle.leveldb_version.proofs.VersionLemmas.{at_level_map}
+use Rattle.leveldb_files.specs.Levels.Overlap.{greatest_overlap, is_overlapped, overlapping, overlaps}
+use Rattle.leveldb_files.specs.Levels.Summary.{total_size}
+use Rattle.leveldb_version.specs.Versions.Version.{VersionValue, new_files_of}
+use Rattle.leveldb_version.specs.Edits.VersionEdit.{new_file_of}
+use Rattle.leveldb_version.proofs.Versions.VersionLemmas.{at_level_map}
 use Rattle.leveldb_version.proofs.version.Version.may_go_to.Goals as goal
 
 pub returns-then-not-is_overlapped : goal.returns-then-not-is_overlapped

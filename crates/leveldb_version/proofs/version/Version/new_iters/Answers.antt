@@ -1,10 +1,10 @@
 use Rattle.std.proofs.Common.{List, ◌∙◌, ap, subst, sym, ℕ}
 use Rattle.std.specs.List.Sorted.{IsNonDecreasingBy}
 use Rattle.leveldb_base.specs.declared.types.FileMetaData.{FileMetaData}
-use Rattle.leveldb_version.specs.Version.{VersionValue, at_level}
-use Rattle.leveldb_version.specs.VersionIters.{AreWalksOf, each_alone, levels_of_walks}
-use Rattle.leveldb_version.proofs.VersionItersLemmas.{walks_of_version}
-use Rattle.leveldb_version.proofs.VersionLemmas.{levels_rise}
+use Rattle.leveldb_version.specs.Versions.Version.{VersionValue, at_level}
+use Rattle.leveldb_version.specs.Walks.VersionIters.{AreWalksOf, each_alone, levels_of_walks}
+use Rattle.leveldb_version.proofs.Walks.VersionItersLemmas.{walks_of_version}
+use Rattle.leveldb_version.proofs.Versions.VersionLemmas.{levels_rise}
 use Rattle.leveldb_version.proofs.version.Version.new_iters.Goals as goal
 
 pub part_of_level-requires : goal.part_of_level-requires

@@ -1,5 +1,5 @@
 use Rattle.std.proofs.Common.{◌∙◌, ap, length}
-use Rattle.leveldb_version.proofs.VersionLemmas.{at_level_length}
+use Rattle.leveldb_version.proofs.Versions.VersionLemmas.{at_level_length}
 use Rattle.leveldb_version.proofs.version.Version.num_level_files.Goals as goal
 
 pub returns : goal.returns

@@ -1,5 +1,5 @@
 use Rattle.std.proofs.Common.{◌≡◌, map, take}
-use Rattle.leveldb_version.specs.Version.{FilesFit, with_first_seeks}
+use Rattle.leveldb_version.specs.Versions.Version.{FilesFit, with_first_seeks}
 use Rattle.leveldb_version.proofs.version.Version.of_files.Given as goal
 
 abbrev pub invariant-loop-file : goal.invariant-loop-file

@@ -1,8 +1,8 @@
 use Rattle.std.proofs.Common.{◌≡◌, ◌∙◌, ap, subst}
 use Rattle.leveldb_base.specs.KeyTypes.{user_part}
-use Rattle.leveldb_version.specs.Overlap.{AreInputs, UserRange, named_range}
-use Rattle.leveldb_version.specs.Version.{borrowed_files, new_files_of}
-use Rattle.leveldb_version.proofs.OverlapLemmas.{if_ok_more}
+use Rattle.leveldb_files.specs.Levels.Overlap.{AreInputs, UserRange, named_range}
+use Rattle.leveldb_version.specs.Versions.Version.{borrowed_files, new_files_of}
+use Rattle.leveldb_files.proofs.Levels.OverlapLemmas.{if_ok_more}
 use Rattle.leveldb_version.proofs.version.Version.overlapping_inputs.Goals as goal
 
 pub returns-clause-ok : goal.returns-clause-ok

@@ -1,7 +1,7 @@
 use Rattle.std.proofs.Common.{List, subst, sym, ℕ}
 use Rattle.std.specs.List.Sorted.{IsNonDecreasingBy}
 use Rattle.leveldb_base.specs.declared.types.FileMetaData.{FileMetaData}
-use Rattle.leveldb_version.proofs.VersionLemmas.{levels_rise}
+use Rattle.leveldb_version.proofs.Versions.VersionLemmas.{levels_rise}
 use Rattle.leveldb_version.proofs.version.Version.part.Goals as goal
 
 pub part_of_level-requires : goal.part_of_level-requires

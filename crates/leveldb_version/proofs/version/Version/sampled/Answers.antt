@@ -3,12 +3,13 @@ use Rattle.std.specs.Borrow.{Bor}
 use Rattle.std.specs.List.Sorted.{IsNonDecreasingBy}
 use Rattle.std.specs.Option.{option_copied, option_map}
 use Rattle.leveldb_base.specs.declared.types.FileMetaData.{FileMetaData}
-use Rattle.leveldb_version.proofs.SamplingLemmas.{one_sampled, two_sampled}
-use Rattle.leveldb_version.proofs.VersionLemmas.{levels_rise}
-use Rattle.leveldb_version.specs.Sampling.{ChargesForSample}
-use Rattle.leveldb_version.specs.Search.{AreDisjointLevels, TakesNextFile, files_left}
-use Rattle.leveldb_version.specs.Version.{VersionValue, new_files_of}
-use Rattle.leveldb_version.specs.VersionEdit.{NewFile, new_file_of}
+use Rattle.leveldb_version.proofs.Versions.SamplingLemmas.{one_sampled, two_sampled}
+use Rattle.leveldb_version.proofs.Versions.VersionLemmas.{levels_rise}
+use Rattle.leveldb_version.specs.Versions.Sampling.{ChargesForSample}
+use Rattle.leveldb_version.specs.Versions.Search.{AreDisjointLevels, TakesNextFile, files_left}
+use Rattle.leveldb_version.specs.Versions.Version.{VersionValue, new_files_of}
+use Rattle.leveldb_files.specs.Edits.Edit.{NewFile}
+use Rattle.leveldb_version.specs.Edits.VersionEdit.{new_file_of}
 use Rattle.leveldb_version.proofs.version.Version.sampled.Goals as goal
 
 pub new-files-requires : goal.new-files-requires

@@ -1,11 +1,11 @@
 use Rattle.std.proofs.Common.{◌≡◌, ◌∙◌, ap, map}
 use Rattle.std.specs.List.{filter}
-use Rattle.leveldb_version.specs.Compaction.{closed_range}
-use Rattle.leveldb_version.specs.Overlap.{UserRange, overlapping, overlaps}
-use Rattle.leveldb_version.specs.Summary.{files_of_level, total_size}
-use Rattle.leveldb_version.specs.Version.{VersionValue, new_files_of}
-use Rattle.leveldb_version.specs.VersionEdit.{new_file_of}
-use Rattle.leveldb_version.proofs.VersionLemmas.{at_level_map}
+use Rattle.leveldb_version.specs.Compactions.Compaction.{closed_range}
+use Rattle.leveldb_files.specs.Levels.Overlap.{UserRange, overlapping, overlaps}
+use Rattle.leveldb_files.specs.Levels.Summary.{files_of_level, total_size}
+use Rattle.leveldb_version.specs.Versions.Version.{VersionValue, new_files_of}
+use Rattle.leveldb_version.specs.Edits.VersionEdit.{new_file_of}
+use Rattle.leveldb_version.proofs.Versions.VersionLemmas.{at_level_map}
 use Rattle.leveldb_version.proofs.version.Version.size_between.Goals as goal
 
 pub returns : goal.returns

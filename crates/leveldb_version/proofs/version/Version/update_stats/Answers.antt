@@ -1,8 +1,8 @@
 use Rattle.std.proofs.Common.{◌∙◌, ap, length, map, subst, sym, ℕ}
 use Rattle.std.specs.List.Sorted.{IsNonDecreasingBy}
 use Rattle.leveldb_base.specs.declared.types.FileMetaData.{FileMetaData}
-use Rattle.leveldb_version.specs.Version.{after_seek}
-use Rattle.leveldb_version.proofs.VersionLemmas.{levels_rise, seeks_keep_order, seeks_keep_fit}
+use Rattle.leveldb_version.specs.Versions.Version.{after_seek}
+use Rattle.leveldb_version.proofs.Versions.VersionLemmas.{levels_rise, seeks_keep_order, seeks_keep_fit}
 use Rattle.leveldb_version.proofs.version.Version.update_stats.Goals as goal
 
 pub has_last_seek-requires : goal.has_last_seek-requires

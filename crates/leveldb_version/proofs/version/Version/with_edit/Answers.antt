@@ -1,7 +1,7 @@
 use Rattle.std.proofs.Common.{◌≡◌, ◌<◌, ◌^◌, rules, subst, sym, ℕ}
 use Rattle.std.proofs.lemmas.List.Sorted.{All-permutation}
 use Rattle.leveldb_base.specs.declared.types.FileMetaData.{FileMetaData}
-use Rattle.leveldb_version.specs.Version.{FilesFit}
+use Rattle.leveldb_version.specs.Versions.Version.{FilesFit}
 use Rattle.leveldb_version.proofs.version.Version.with_edit.Goals as goal
 
 pub returns-clause-fit : goal.returns-clause-fit

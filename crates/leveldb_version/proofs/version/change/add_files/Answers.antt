@@ -1,7 +1,7 @@
 use Rattle.std.proofs.Common.{◌∙◌, ap, sym}
-use Rattle.leveldb_version.proofs.ChangeLemmas.{more_mapped}
-use Rattle.leveldb_version.specs.Change.{version_files_with}
-use Rattle.leveldb_version.specs.VersionEdit.{new_file_of}
+use Rattle.leveldb_version.proofs.Versions.ChangeLemmas.{more_mapped}
+use Rattle.leveldb_version.specs.Versions.Change.{version_files_with}
+use Rattle.leveldb_version.specs.Edits.VersionEdit.{new_file_of}
 use Rattle.leveldb_version.proofs.version.change.add_files.Goals as goal
 
 pub loop-file-preserved : goal.loop-file-preserved

@@ -1,7 +1,7 @@
 use Rattle.std.proofs.Common.{◌≡◌, fold, map, take}
-use Rattle.leveldb_version.specs.Version.{FilesFit}
-use Rattle.leveldb_version.specs.Change.{version_files_with}
-use Rattle.leveldb_version.specs.VersionEdit.{new_file_of}
+use Rattle.leveldb_version.specs.Versions.Version.{FilesFit}
+use Rattle.leveldb_version.specs.Versions.Change.{version_files_with}
+use Rattle.leveldb_version.specs.Edits.VersionEdit.{new_file_of}
 use Rattle.leveldb_version.proofs.version.change.add_files.Given as goal
 
 abbrev pub invariant-loop-file : goal.invariant-loop-file

@@ -1,7 +1,7 @@
 use Rattle.std.proofs.Common.{◌≡◌, fold, map}
 use Rattle.std.specs.Map.Iter.{deref}
-use Rattle.leveldb_version.specs.Version.{FilesFit}
-use Rattle.leveldb_version.specs.Change.{version_files_without}
+use Rattle.leveldb_version.specs.Versions.Version.{FilesFit}
+use Rattle.leveldb_version.specs.Versions.Change.{version_files_without}
 use Rattle.leveldb_version.proofs.version.change.remove_files.Given as goal
 
 abbrev pub invariant-loop-file : goal.invariant-loop-file

@@ -4,8 +4,9 @@ use Rattle.std.specs.Ordering.{is_lt}
 use Rattle.leveldb_base.proofs.EntriesLemmas.{map_in}
 use Rattle.leveldb_base.specs.CmpLaws.{total_order}
 use Rattle.leveldb_base.specs.KeyTypes.{user_part}
-use Rattle.leveldb_version.specs.VersionEdit.{NewFile, new_file_of}
-use Rattle.leveldb_version.proofs.FindFileLemmas.{found_here, none_here, none_past, parted}
+use Rattle.leveldb_files.specs.Edits.Edit.{NewFile}
+use Rattle.leveldb_version.specs.Edits.VersionEdit.{new_file_of}
+use Rattle.leveldb_version.proofs.Versions.FindFileLemmas.{found_here, none_here, none_past, parted}
 use Rattle.leveldb_version.proofs.version.find.file_with_key.Goals as goal
 
 pub returns-then-index-files-clause-found : goal.returns-then-index-files-clause-found

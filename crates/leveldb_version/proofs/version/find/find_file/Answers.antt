@@ -2,9 +2,10 @@ use Rattle.std.proofs.Common.{◌≡◌, Bool, arith, false, length, map, rules,
 use Rattle.std.proofs.lemmas.List.{length-map}
 use Rattle.std.proofs.lemmas.List.Sorted.{IsPartitionPoint-from_clause}
 use Rattle.std.specs.List.{AllWithin}
-use Rattle.leveldb_version.specs.Overlap.{ends_before}
-use Rattle.leveldb_version.specs.VersionEdit.{NewFile, new_file_of}
-use Rattle.leveldb_version.proofs.FindFileLemmas.{mapped_within, parted_before}
+use Rattle.leveldb_files.specs.Levels.Overlap.{ends_before}
+use Rattle.leveldb_files.specs.Edits.Edit.{NewFile}
+use Rattle.leveldb_version.specs.Edits.VersionEdit.{new_file_of}
+use Rattle.leveldb_version.proofs.Versions.FindFileLemmas.{mapped_within, parted_before}
 use Rattle.leveldb_version.proofs.version.find.find_file.Goals as goal
 
 pub returns-clause-parts : goal.returns-clause-parts

@@ -3,9 +3,9 @@ use Rattle.std.specs.Prelude.{IsTrue}
 use Rattle.leveldb_base.specs.contracts.cmp.internal.InternalKeyCmpCmp.TheImpl.{ghosts as key_order}
 use Rattle.leveldb_env.specs.contracts.compressor.CompressorListCompressors.TheImpl.{ghosts as compressors}
 use Rattle.leveldb_table.specs.BlockWalk.{pair_with}
-use Rattle.leveldb_version.specs.Format.{format_of}
-use Rattle.leveldb_version.specs.TableCache.{GetsPair, MatchesFiles, files_at, table_options}
-use Rattle.leveldb_version.proofs.SearchTableLemmas.{search_answers, search_refused}
+use Rattle.leveldb_files.specs.Stores.Format.{format_of}
+use Rattle.leveldb_version.specs.Tables.TableCache.{GetsPair, MatchesFiles, files_at, table_options}
+use Rattle.leveldb_version.proofs.Tables.SearchTableLemmas.{search_answers, search_refused}
 use Rattle.leveldb_version.proofs.version.get.newest_in_table.Goals as goal
 
 pub returns-in_err-value : goal.returns-in_err-value

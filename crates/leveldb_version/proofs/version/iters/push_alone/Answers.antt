@@ -1,6 +1,6 @@
 use Rattle.std.proofs.Common.{◌∷◌, ◌++◌, ◌∙◌, [], ap, append_assoc, subst, sym}
-use Rattle.leveldb_version.specs.VersionIters.{AreWalksOf, each_alone}
-use Rattle.leveldb_version.proofs.VersionItersLemmas.{last_alone, walks_alone}
+use Rattle.leveldb_version.specs.Walks.VersionIters.{AreWalksOf, each_alone}
+use Rattle.leveldb_version.proofs.Walks.VersionItersLemmas.{last_alone, walks_alone}
 use Rattle.leveldb_version.proofs.version.iters.push_alone.Goals as goal
 
 pub loop-rest-preserved : goal.loop-rest-preserved

@@ -1,6 +1,6 @@
 use Rattle.std.proofs.Common.{◌≡◌, List, ◌++◌, length, ℕ}
 use Rattle.leveldb_base.specs.declared.types.FileMetaData.{FileMetaData}
-use Rattle.leveldb_version.specs.VersionIters.{AreWalksOf, each_alone}
+use Rattle.leveldb_version.specs.Walks.VersionIters.{AreWalksOf, each_alone}
 use Rattle.leveldb_version.proofs.version.iters.push_alone.Given as goal
 
 abbrev pub invariant-loop-rest : goal.invariant-loop-rest

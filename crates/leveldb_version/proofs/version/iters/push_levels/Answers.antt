@@ -1,6 +1,6 @@
 use Rattle.std.proofs.Common.{◌≡◌, ◌+◌, ◌-◌, ◌∙◌, arith, ap, subst, sym, take}
-use Rattle.leveldb_version.specs.VersionIters.{AreWalksOf}
-use Rattle.leveldb_version.proofs.VersionItersLemmas.{deep_levels, levels_among, no_files, some_files, walks_empty, walks_level}
+use Rattle.leveldb_version.specs.Walks.VersionIters.{AreWalksOf}
+use Rattle.leveldb_version.proofs.Walks.VersionItersLemmas.{deep_levels, levels_among, no_files, some_files, walks_empty, walks_level}
 use Rattle.leveldb_version.proofs.version.iters.push_levels.Goals as goal
 use Rattle.leveldb_version.proofs.version.iters.push_levels.Goals.{then-not-is_empty+in_ok-push, else-not-is_empty}
 

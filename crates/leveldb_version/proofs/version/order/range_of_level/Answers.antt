@@ -1,7 +1,7 @@
 use Rattle.std.proofs.Common.{leb, ltb, rules, ℕ}
 use Rattle.std.proofs.lemmas.List.Sorted.{IsPartitionPoint-from_clause, IsPartitionedBy-leb, IsPartitionedBy-ltb}
 use Rattle.leveldb_base.specs.declared.types.FileMetaData.{FileMetaData}
-use Rattle.leveldb_version.proofs.VersionLemmas.{level_between}
+use Rattle.leveldb_version.proofs.Versions.VersionLemmas.{level_between}
 use Rattle.leveldb_version.proofs.version.order.range_of_level.Goals as goal
 
 pub returns : goal.returns

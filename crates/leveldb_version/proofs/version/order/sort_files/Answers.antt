@@ -1,6 +1,6 @@
 use Rattle.std.proofs.Common.{rules}
 use Rattle.leveldb_base.specs.CmpLaws.{total_order}
-use Rattle.leveldb_version.proofs.VersionLemmas.{sorted_by_closure, version_total}
+use Rattle.leveldb_version.proofs.Versions.VersionLemmas.{sorted_by_closure, version_total}
 use Rattle.leveldb_version.proofs.version.order.sort_files.Goals as goal
 
 pub returns-clause-in_order : goal.returns-clause-in_order

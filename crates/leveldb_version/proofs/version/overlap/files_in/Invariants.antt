@@ -1,8 +1,8 @@
 use Rattle.std.proofs.Common.{◌≡◌, map, take}
 use Rattle.std.specs.List.{filter}
-use Rattle.leveldb_version.specs.Overlap.{overlaps}
-use Rattle.leveldb_version.specs.Version.{borrowed_files}
-use Rattle.leveldb_version.specs.VersionEdit.{new_file_of}
+use Rattle.leveldb_files.specs.Levels.Overlap.{overlaps}
+use Rattle.leveldb_version.specs.Versions.Version.{borrowed_files}
+use Rattle.leveldb_version.specs.Edits.VersionEdit.{new_file_of}
 use Rattle.leveldb_version.proofs.version.overlap.files_in.Given as goal
 
 abbrev pub invariant-loop-file : goal.invariant-loop-file

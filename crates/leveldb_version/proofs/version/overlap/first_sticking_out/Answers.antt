@@ -1,7 +1,7 @@
 use Rattle.std.proofs.Common.{◌≡◌, ◌∙◌, sym, true}
-use Rattle.leveldb_version.specs.Overlap.{overlaps, sticks_out}
-use Rattle.leveldb_version.specs.VersionEdit.{new_file_of}
-use Rattle.leveldb_version.proofs.OverlapLemmas.{and_false_first, and_false_second, find_here, find_next, is_partly_in}
+use Rattle.leveldb_files.specs.Levels.Overlap.{overlaps, sticks_out}
+use Rattle.leveldb_version.specs.Edits.VersionEdit.{new_file_of}
+use Rattle.leveldb_files.proofs.Levels.OverlapLemmas.{and_false_first, and_false_second, find_here, find_next, is_partly_in}
 use Rattle.leveldb_version.proofs.version.overlap.first_sticking_out.Goals as goal
 use Rattle.leveldb_version.proofs.version.overlap.first_sticking_out.Goals.{else-overlaps-via-then-overlaps+else-sticks_out, else-overlaps-via-else-overlaps}
 

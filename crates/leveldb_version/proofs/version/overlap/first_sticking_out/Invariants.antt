@@ -1,8 +1,8 @@
 use Rattle.std.proofs.Common.{◌≡◌, map, take}
 use Rattle.std.specs.Prelude.{◌&&◌, None}
 use Rattle.std.specs.List.{find}
-use Rattle.leveldb_version.specs.Overlap.{overlaps, sticks_out}
-use Rattle.leveldb_version.specs.VersionEdit.{new_file_of}
+use Rattle.leveldb_files.specs.Levels.Overlap.{overlaps, sticks_out}
+use Rattle.leveldb_version.specs.Edits.VersionEdit.{new_file_of}
 use Rattle.leveldb_version.proofs.version.overlap.first_sticking_out.Given as goal
 
 abbrev pub invariant-loop-file : goal.invariant-loop-file

@@ -1,7 +1,7 @@
 use Rattle.std.proofs.Common.{◌∙◌, sym}
-use Rattle.leveldb_version.specs.Overlap.{overlaps}
-use Rattle.leveldb_version.specs.VersionEdit.{new_file_of}
-use Rattle.leveldb_version.proofs.OverlapLemmas.{any_mapped}
+use Rattle.leveldb_files.specs.Levels.Overlap.{overlaps}
+use Rattle.leveldb_version.specs.Edits.VersionEdit.{new_file_of}
+use Rattle.leveldb_files.proofs.Levels.OverlapLemmas.{any_mapped}
 use Rattle.leveldb_version.proofs.version.overlap.is_overlapped.Goals as goal
 
 pub returns-then-overlaps : goal.returns-then-overlaps

@@ -2,9 +2,9 @@ use Rattle.std.proofs.Common.{◌≡◌, ◌<◌, ◌∙◌, Some, None, ap, map
 use Rattle.std.specs.List.{count_by, find}
 use Rattle.std.specs.Option.{option_copied, option_map}
 use Rattle.leveldb_base.specs.CmpLaws.{total_order}
-use Rattle.leveldb_version.specs.Overlap.{UserRange, sticks_out}
-use Rattle.leveldb_version.specs.VersionEdit.{new_file_of}
-use Rattle.leveldb_version.proofs.OverlapLemmas.{IsWidening, fewer_stick_out, is_partly_in, widening_ends, widening_goes_on, widening_starts}
+use Rattle.leveldb_files.specs.Levels.Overlap.{UserRange, sticks_out}
+use Rattle.leveldb_version.specs.Edits.VersionEdit.{new_file_of}
+use Rattle.leveldb_files.proofs.Levels.OverlapLemmas.{IsWidening, fewer_stick_out, is_partly_in, widening_ends, widening_goes_on, widening_starts}
 use Rattle.leveldb_version.proofs.version.overlap.widen.Goals as goal
 
 pub loop-file-init : goal.loop-file-init

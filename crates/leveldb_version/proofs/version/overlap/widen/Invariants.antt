@@ -1,8 +1,8 @@
 use Rattle.std.proofs.Common.{map}
 use Rattle.std.specs.List.{count_by}
-use Rattle.leveldb_version.specs.Overlap.{sticks_out}
-use Rattle.leveldb_version.specs.VersionEdit.{new_file_of}
-use Rattle.leveldb_version.proofs.OverlapLemmas.{IsWidening}
+use Rattle.leveldb_files.specs.Levels.Overlap.{sticks_out}
+use Rattle.leveldb_version.specs.Edits.VersionEdit.{new_file_of}
+use Rattle.leveldb_files.proofs.Levels.OverlapLemmas.{IsWidening}
 use Rattle.leveldb_version.proofs.version.overlap.widen.Given as goal
 
 abbrev pub invariant-loop-file : goal.invariant-loop-file

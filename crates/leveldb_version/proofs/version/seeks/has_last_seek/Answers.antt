@@ -1,7 +1,7 @@
 use Rattle.std.proofs.Common.{◌∙◌, ap}
 use Rattle.std.specs.List.{list_any}
-use Rattle.leveldb_version.proofs.SeeksLemmas.{last_seek_at_level}
-use Rattle.leveldb_version.specs.Version.{has_last_seek}
+use Rattle.leveldb_version.proofs.Versions.SeeksLemmas.{last_seek_at_level}
+use Rattle.leveldb_version.specs.Versions.Version.{has_last_seek}
 use Rattle.leveldb_version.proofs.version.seeks.has_last_seek.Goals as goal
 
 pub returns : goal.returns

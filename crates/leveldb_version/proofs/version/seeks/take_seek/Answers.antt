@@ -1,4 +1,4 @@
-use Rattle.leveldb_version.proofs.SeeksLemmas.{seek_in_range}
+use Rattle.leveldb_version.proofs.Versions.SeeksLemmas.{seek_in_range}
 use Rattle.leveldb_version.proofs.version.seeks.take_seek.Goals as goal
 
 pub returns : goal.returns

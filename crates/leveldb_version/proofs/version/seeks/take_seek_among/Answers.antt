@@ -1,5 +1,5 @@
-use Rattle.leveldb_version.specs.Version.{after_seek}
-use Rattle.leveldb_version.proofs.VersionLemmas.{mapped_in_place}
+use Rattle.leveldb_version.specs.Versions.Version.{after_seek}
+use Rattle.leveldb_version.proofs.Versions.VersionLemmas.{mapped_in_place}
 use Rattle.leveldb_version.proofs.version.seeks.take_seek_among.Goals as goal
 
 pub loop-file-preserved : goal.loop-file-preserved

@@ -1,8 +1,8 @@
 use Rattle.std.proofs.Common.{◌≡◌, ◌<◌, length, arith}
 use Rattle.std.proofs.lemmas.Bool.Decides.{nat_tests}
 use Rattle.leveldb_base.specs.declared.error.StatusCode.TheVariants.{Corruption}
-use Rattle.leveldb_version.specs.VersionEdit.{Edit, IsEdit}
-use Rattle.leveldb_version.proofs.VersionEditLemmas.{nothing_read, no_seeks_first, of_error, reads_none, read_more, no_more_seeks}
+use Rattle.leveldb_files.specs.Edits.Edit.{Edit, IsEdit}
+use Rattle.leveldb_version.proofs.Edits.VersionEditLemmas.{nothing_read, no_seeks_first, of_error, reads_none, read_more, no_more_seeks}
 use Rattle.leveldb_version.proofs.version_edit.VersionEdit.decode_from.Goals as goal
 
 pub loop-rest-init : goal.loop-rest-init

@@ -1,6 +1,6 @@
 use Rattle.std.proofs.Common.{length}
-use Rattle.leveldb_version.specs.VersionEdit.{edit_of, HasNoSeeks}
-use Rattle.leveldb_version.proofs.VersionEditLemmas.{HasRead}
+use Rattle.leveldb_version.specs.Edits.VersionEdit.{edit_of, HasNoSeeks}
+use Rattle.leveldb_version.proofs.Edits.VersionEditLemmas.{HasRead}
 use Rattle.leveldb_version.proofs.version_edit.VersionEdit.decode_from.Given as goal
 
 abbrev pub invariant-loop-rest : goal.invariant-loop-rest

@@ -2,8 +2,9 @@ use Rattle.std.proofs.Common.{ℕ, ◌<◌, ◌^◌, List, ◌∙◌, ap, subst,
 use Rattle.std.proofs.lemmas.List.Elements.{All-map}
 use Rattle.std.specs.List.{All}
 use Rattle.leveldb_base.specs.declared.types.FileMetaData.{FileMetaData}
-use Rattle.leveldb_version.specs.VersionEdit.{edit_of, pointer_of, new_file_of, NewFile, points, adds, field_bytes}
-use Rattle.leveldb_version.proofs.VersionEditLemmas.{all_put, is_read, name_fits}
+use Rattle.leveldb_version.specs.Edits.VersionEdit.{edit_of, pointer_of, new_file_of}
+use Rattle.leveldb_files.specs.Edits.Edit.{NewFile, points, adds, field_bytes}
+use Rattle.leveldb_version.proofs.Edits.VersionEditLemmas.{all_put, is_read, name_fits}
 use Rattle.leveldb_version.proofs.version_edit.VersionEdit.encode.Goals as goal
 
 pub returns-clause-ok : goal.returns-clause-ok

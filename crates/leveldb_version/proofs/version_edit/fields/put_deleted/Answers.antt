@@ -2,7 +2,7 @@ use Rattle.std.proofs.Common.{rules, ◌≡◌, ◌<◌, ◌^◌, ◌∙◌, ◌
 use Rattle.std.proofs.lemmas.Map.Iter.{iter_end}
 use Rattle.std.specs.List.{All}
 use Rattle.std.specs.Map.Iter.{deref}
-use Rattle.leveldb_version.specs.VersionEdit.{LevelFile, deletes, field_bytes}
+use Rattle.leveldb_files.specs.Edits.Edit.{LevelFile, deletes, field_bytes}
 use Rattle.leveldb_version.proofs.version_edit.fields.put_deleted.Goals as goal
 
 pub returns-clause-ok : goal.returns-clause-ok

@@ -1,7 +1,7 @@
 use Rattle.std.proofs.Common.{◌≡◌, ◌<◌, ◌^◌, ◌++◌, flat_map, map}
 use Rattle.std.specs.List.{All}
 use Rattle.std.specs.Map.Iter.{deref}
-use Rattle.leveldb_version.specs.VersionEdit.{deletes, field_bytes}
+use Rattle.leveldb_files.specs.Edits.Edit.{deletes, field_bytes}
 use Rattle.leveldb_version.proofs.version_edit.fields.put_deleted.Given as goal
 
 abbrev pub invariant-loop-file : goal.invariant-loop-file

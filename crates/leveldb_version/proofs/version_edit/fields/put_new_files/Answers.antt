@@ -1,8 +1,9 @@
 use Rattle.std.proofs.Common.{ℕ, ◌<◌, ◌^◌, subst}
 use Rattle.std.proofs.lemmas.List.Elements.{All-more}
 use Rattle.leveldb_base.specs.declared.types.FileMetaData.{FileMetaData}
-use Rattle.leveldb_version.specs.VersionEdit.{adds, new_file_of}
-use Rattle.leveldb_version.proofs.VersionEditLemmas.{put_more}
+use Rattle.leveldb_files.specs.Edits.Edit.{adds}
+use Rattle.leveldb_version.specs.Edits.VersionEdit.{new_file_of}
+use Rattle.leveldb_version.proofs.Edits.VersionEditLemmas.{put_more}
 use Rattle.leveldb_version.proofs.version_edit.fields.put_new_files.Goals as goal
 
 pub loop-file-preserved : goal.loop-file-preserved

@@ -1,6 +1,7 @@
 use Rattle.std.proofs.Common.{◌≡◌, ◌<◌, ◌^◌, ◌++◌, flat_map, map, take}
 use Rattle.std.specs.List.{All}
-use Rattle.leveldb_version.specs.VersionEdit.{adds, field_bytes, new_file_of}
+use Rattle.leveldb_files.specs.Edits.Edit.{adds, field_bytes}
+use Rattle.leveldb_version.specs.Edits.VersionEdit.{new_file_of}
 use Rattle.leveldb_version.proofs.version_edit.fields.put_new_files.Given as goal
 
 abbrev pub invariant-loop-file : goal.invariant-loop-file

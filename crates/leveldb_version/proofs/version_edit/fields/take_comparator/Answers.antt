@@ -1,4 +1,4 @@
-use Rattle.leveldb_version.proofs.FieldsLemmas.{no_name}
+use Rattle.leveldb_version.proofs.Edits.FieldsLemmas.{no_name}
 use Rattle.leveldb_version.proofs.version_edit.fields.take_comparator.Goals as goal
 
 pub returns-in_default : goal.returns-in_default

@@ -1,4 +1,4 @@
-use Rattle.leveldb_version.proofs.FieldsLemmas.{no_number}
+use Rattle.leveldb_version.proofs.Edits.FieldsLemmas.{no_number}
 use Rattle.leveldb_version.proofs.version_edit.fields.take_deleted.Goals as goal
 
 pub returns-in_err-number : goal.returns-in_err-number

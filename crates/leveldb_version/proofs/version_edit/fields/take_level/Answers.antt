@@ -1,4 +1,4 @@
-use Rattle.leveldb_version.proofs.FieldsLemmas.{no_level}
+use Rattle.leveldb_version.proofs.Edits.FieldsLemmas.{no_level}
 use Rattle.leveldb_version.proofs.version_edit.fields.take_level.Goals as goal
 
 pub returns-then-level : goal.returns-then-level

@@ -1,5 +1,5 @@
 use Rattle.std.proofs.Common.{arith}
-use Rattle.leveldb_version.proofs.FieldsLemmas.{no_file_number, no_size, no_smallest, no_largest}
+use Rattle.leveldb_version.proofs.Edits.FieldsLemmas.{no_file_number, no_size, no_smallest, no_largest}
 use Rattle.leveldb_version.proofs.version_edit.fields.take_new_file.Goals as goal
 
 pub returns-in_err-number : goal.returns-in_err-number

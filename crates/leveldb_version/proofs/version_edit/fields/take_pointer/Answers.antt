@@ -1,5 +1,5 @@
 use Rattle.std.proofs.Common.{arith}
-use Rattle.leveldb_version.proofs.FieldsLemmas.{no_key}
+use Rattle.leveldb_version.proofs.Edits.FieldsLemmas.{no_key}
 use Rattle.leveldb_version.proofs.version_edit.fields.take_pointer.Goals as goal
 
 pub returns-in_err-key : goal.returns-in_err-key

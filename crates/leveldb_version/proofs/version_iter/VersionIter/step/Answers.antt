@@ -1,6 +1,6 @@
 use Rattle.std.proofs.Common.{ap, get_or, refl}
 use Rattle.std.proofs.lemmas.Option.{slice_get-get_or}
-use Rattle.leveldb_version.proofs.VersionIterLemmas.{kept_given, steps_in_file, steps_past, steps_ungiven}
+use Rattle.leveldb_version.proofs.Walks.VersionIterLemmas.{kept_given, steps_in_file, steps_past, steps_ungiven}
 use Rattle.leveldb_version.proofs.version_iter.VersionIter.step.Goals as goal
 
 pub returns-then-at-self : goal.returns-then-at-self

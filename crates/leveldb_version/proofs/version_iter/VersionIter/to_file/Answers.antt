@@ -1,7 +1,7 @@
 use Rattle.std.proofs.Common.{◌≡◌, ◌<◌, ◌∙◌, Err, Ok, ap, length, refl, subst, sym, true}
 use Rattle.leveldb_base.specs.contracts.cmp.internal.InternalKeyCmpCmp.TheImpl.{ghosts as key_order}
-use Rattle.leveldb_version.specs.VersionIter.{MovesToFile, KeepsTableOrNone}
-use Rattle.leveldb_version.proofs.VersionIterLemmas.{to_file_empty, to_file_made, to_file_past, to_file_refused}
+use Rattle.leveldb_version.specs.Walks.VersionIter.{MovesToFile, KeepsTableOrNone}
+use Rattle.leveldb_version.proofs.Walks.VersionIterLemmas.{to_file_empty, to_file_made, to_file_past, to_file_refused}
 use Rattle.leveldb_version.proofs.version_iter.VersionIter.to_file.Goals as goal
 
 pub returns-then-at-self : goal.returns-then-at-self

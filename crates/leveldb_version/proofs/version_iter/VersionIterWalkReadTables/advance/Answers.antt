@@ -1,7 +1,7 @@
 use Rattle.std.proofs.Common.{Err, Ok, ap, arith, length, sym, ◌∙◌}
 use Rattle.leveldb_base.specs.Types.{next_position}
-use Rattle.leveldb_version.proofs.VersionIterForwardLemmas.{walk_next_block, walk_next_file}
-use Rattle.leveldb_version.proofs.VersionIterLemmas.{moves_inside, moves_then, no_some, walk_begins, walk_inside, walk_refused}
+use Rattle.leveldb_version.proofs.Walks.VersionIterForwardLemmas.{walk_next_block, walk_next_file}
+use Rattle.leveldb_version.proofs.Walks.VersionIterLemmas.{moves_inside, moves_then, no_some, walk_begins, walk_inside, walk_refused}
 use Rattle.leveldb_version.proofs.version_iter.VersionIterWalkReadTables.advance.Goals as goal
 
 pub returns-then-not-is_at_pair-clause-moves : goal.returns-then-not-is_at_pair-clause-moves

@@ -1,7 +1,7 @@
 use Rattle.std.proofs.Common.{Err, Ok, ap, arith, sym, ◌∙◌}
 use Rattle.leveldb_base.specs.Types.{previous_position}
-use Rattle.leveldb_version.proofs.VersionIterBackLemmas.{walk_back_inside, walk_block_before, walk_file_before, walk_no_pair}
-use Rattle.leveldb_version.proofs.VersionIterLemmas.{moves_inside, moves_then, walk_refused}
+use Rattle.leveldb_version.proofs.Walks.VersionIterBackLemmas.{walk_back_inside, walk_block_before, walk_file_before, walk_no_pair}
+use Rattle.leveldb_version.proofs.Walks.VersionIterLemmas.{moves_inside, moves_then, walk_refused}
 use Rattle.leveldb_version.proofs.version_iter.VersionIterWalkReadTables.prev.Goals as goal
 
 pub returns-in_err-back_inside-clause-moves : goal.returns-in_err-back_inside-clause-moves

@@ -1,5 +1,5 @@
 use Rattle.std.proofs.Common.{ap}
-use Rattle.leveldb_version.proofs.VersionIterLemmas.{walk_resets}
+use Rattle.leveldb_version.proofs.Walks.VersionIterLemmas.{walk_resets}
 use Rattle.leveldb_version.proofs.version_iter.VersionIterWalkReadTables.reset.Goals as goal
 
 pub returns : goal.returns

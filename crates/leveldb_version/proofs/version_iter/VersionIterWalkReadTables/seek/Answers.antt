@@ -3,9 +3,9 @@ use Rattle.std.proofs.Common.{◌∙◌, Err, Ok, ap, arith, length, refl, subst
 use Rattle.leveldb_base.specs.CmpLaws.{internal_preorder, total_order}
 use Rattle.leveldb_base.specs.KeyTypes.{user_part}
 use Rattle.leveldb_base.specs.contracts.cmp.internal.InternalKeyCmpCmp.TheImpl.{ghosts as key_order}
-use Rattle.leveldb_version.proofs.VersionIterLemmas.{walk_refused}
-use Rattle.leveldb_version.proofs.VersionIterSeekLemmas.{Sought, at_same, moves_on, moves_turned, seeks_after, seeks_in, seeks_none}
-use Rattle.leveldb_version.specs.VersionIter.{KeepsTableOrNone}
+use Rattle.leveldb_version.proofs.Walks.VersionIterLemmas.{walk_refused}
+use Rattle.leveldb_version.proofs.Walks.VersionIterSeekLemmas.{Sought, at_same, moves_on, moves_turned, seeks_after, seeks_in, seeks_none}
+use Rattle.leveldb_version.specs.Walks.VersionIter.{KeepsTableOrNone}
 use Rattle.leveldb_version.proofs.version_iter.VersionIterWalkReadTables.seek.Goals as goal
 use Rattle.leveldb_version.proofs.version_iter.VersionIterWalkReadTables.seek.Goals.{else-not-branch, then-not-branch+in_ok-to_file}
 

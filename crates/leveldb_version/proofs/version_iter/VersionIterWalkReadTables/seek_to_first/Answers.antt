@@ -1,4 +1,4 @@
-use Rattle.leveldb_version.proofs.VersionIterLemmas.{walk_first, walk_refused}
+use Rattle.leveldb_version.proofs.Walks.VersionIterLemmas.{walk_first, walk_refused}
 use Rattle.leveldb_version.proofs.version_iter.VersionIterWalkReadTables.seek_to_first.Goals as goal
 
 pub returns-in_err-to_file : goal.returns-in_err-to_file

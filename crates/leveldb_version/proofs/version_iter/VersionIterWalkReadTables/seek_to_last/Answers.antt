@@ -1,5 +1,5 @@
 use Rattle.std.proofs.Common.{ap, arith}
-use Rattle.leveldb_version.proofs.VersionIterLemmas.{walk_last, walk_last_none, walk_refused}
+use Rattle.leveldb_version.proofs.Walks.VersionIterLemmas.{walk_last, walk_last_none, walk_refused}
 use Rattle.leveldb_version.proofs.version_iter.VersionIterWalkReadTables.seek_to_last.Goals as goal
 
 pub returns-in_default : goal.returns-in_default

@@ -1,5 +1,5 @@
 use Rattle.leveldb_base.specs.declared.types.FileType.TheVariants.{Descriptor}
-use Rattle.leveldb_version.proofs.CurrentLemmas.{other_use}
+use Rattle.leveldb_files.proofs.Edits.CurrentLemmas.{other_use}
 use Rattle.leveldb_version.proofs.version_set.current.manifest_number.Goals as goal
 
 pub returns-in_err-number : goal.returns-in_err-number

@@ -1,7 +1,7 @@
 use Rattle.std.proofs.Common.{subst, sym, List, ℕ}
 use Rattle.leveldb_base.specs.Names.{IsFileName}
 use Rattle.leveldb_base.specs.declared.types.FileType.TheVariants.{Descriptor}
-use Rattle.leveldb_version.proofs.CurrentLemmas.{manifest_name_is_utf8, line_is_name, kept_ok, kept_err}
+use Rattle.leveldb_files.proofs.Edits.CurrentLemmas.{manifest_name_is_utf8, line_is_name, kept_ok, kept_err}
 use Rattle.leveldb_version.proofs.version_set.current.read_current_text.Goals as goal
 
 pub returns-in_err-name : goal.returns-in_err-name

@@ -3,9 +3,9 @@ use Rattle.std.specs.Prelude.{is_ok}
 use Rattle.std.specs.List.{filter}
 use Rattle.std.proofs.lemmas.Fn.{filter_same}
 use Rattle.leveldb_version.specs.declared.version_edit.CompactionPointer.{CompactionPointer}
-use Rattle.leveldb_version.proofs.FullEditLemmas.{map-filter}
-use Rattle.leveldb_version.proofs.SummaryLemmas.{map-append}
-use Rattle.leveldb_version.specs.VersionEdit.{pointer_of}
+use Rattle.leveldb_version.proofs.Edits.FullEditLemmas.{map-filter}
+use Rattle.leveldb_files.proofs.Levels.SummaryLemmas.{map-append}
+use Rattle.leveldb_version.specs.Edits.VersionEdit.{pointer_of}
 use Rattle.leveldb_version.proofs.version_set.full_edit.add_pointer.Goals as goal
 
 pub returns-clause-pointers : goal.returns-clause-pointers

@@ -2,9 +2,9 @@ use Rattle.std.proofs.Common.{◌≡◌, ◌∙◌, ℕ, Bool, ap, map, not, rul
 use Rattle.std.specs.List.{filter}
 use Rattle.std.proofs.lemmas.Fn.{filter_same}
 use Rattle.leveldb_base.specs.declared.types.FileMetaData.{FileMetaData}
-use Rattle.leveldb_version.proofs.FullEditLemmas.{map-filter}
-use Rattle.leveldb_version.specs.VersionEdit.{new_file_of}
-use Rattle.leveldb_version.specs.VersionSet.{is_same_file, level_file}
+use Rattle.leveldb_version.proofs.Edits.FullEditLemmas.{map-filter}
+use Rattle.leveldb_version.specs.Edits.VersionEdit.{new_file_of}
+use Rattle.leveldb_files.specs.Edits.VersionSet.{is_same_file, level_file}
 use Rattle.leveldb_version.proofs.version_set.full_edit.remove_file.Goals as goal
 
 pub returns-clause-files : goal.returns-clause-files

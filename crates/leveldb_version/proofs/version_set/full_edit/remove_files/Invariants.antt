@@ -1,8 +1,8 @@
 use Rattle.std.proofs.Common.{◌≡◌, ◌≤◌, fold, map}
 use Rattle.std.specs.Prelude.{vec_len, vec_capacity}
 use Rattle.std.specs.Map.Iter.{deref}
-use Rattle.leveldb_version.specs.FullEdit.{files_without}
-use Rattle.leveldb_version.specs.VersionEdit.{new_file_of}
+use Rattle.leveldb_version.specs.Edits.FullEdit.{files_without}
+use Rattle.leveldb_version.specs.Edits.VersionEdit.{new_file_of}
 use Rattle.leveldb_version.proofs.version_set.full_edit.remove_files.Given as goal
 
 abbrev pub invariant-loop-file : goal.invariant-loop-file

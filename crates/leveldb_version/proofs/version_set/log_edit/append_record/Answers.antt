@@ -1,6 +1,6 @@
 use Rattle.std.proofs.lemmas.Result.{err_from_is_err_and}
 use Rattle.leveldb_env.proofs.EnvLemmas.{ChangesFiles-refused}
-use Rattle.leveldb_version.proofs.LogEditLemmas.{appended_cause, appended_does, appended_err, appended_ok, unappended, unappended_cause, unappended_does}
+use Rattle.leveldb_version.proofs.Sets.LogEditLemmas.{appended_cause, appended_does, appended_err, appended_ok, unappended, unappended_cause, unappended_does}
 use Rattle.leveldb_version.proofs.version_set.log_edit.append_record.Goals as goal
 
 pub returns-in_err-append-clause-does : goal.returns-in_err-append-clause-does

@@ -1,7 +1,8 @@
 use Rattle.std.proofs.Common.{◌∙◌, ◌<◌, sym}
 use Rattle.std.proofs.lemmas.List.Elements.{All-map}
-use Rattle.leveldb_version.specs.VersionEdit.{NewFile, Pointer, new_file_of, pointer_of}
-use Rattle.leveldb_version.proofs.LogEditLemmas.{All-unmap}
+use Rattle.leveldb_files.specs.Edits.Edit.{NewFile, Pointer}
+use Rattle.leveldb_version.specs.Edits.VersionEdit.{new_file_of, pointer_of}
+use Rattle.leveldb_version.proofs.Sets.LogEditLemmas.{All-unmap}
 use Rattle.leveldb_version.proofs.version_set.log_edit.levels_fit.Goals as goal
 
 pub returns-then-not-pointers_fit : goal.returns-then-not-pointers_fit

@@ -3,7 +3,7 @@ use Rattle.std.specs.Global.{Global}
 use Rattle.std.proofs.lemmas.List.{drop_more}
 use Rattle.leveldb_mem.specs.Log.{framed, log_block_size}
 use Rattle.leveldb_mem.specs.Log.Writer.{WriterState, after_frame}
-use Rattle.leveldb_version.proofs.NewManifestLemmas.{framed_more}
+use Rattle.leveldb_version.proofs.Sets.NewManifestLemmas.{framed_more}
 use Rattle.leveldb_version.proofs.version_set.new_manifest.frame_records.Goals as goal
 
 pub loop-record-preserved : goal.loop-record-preserved

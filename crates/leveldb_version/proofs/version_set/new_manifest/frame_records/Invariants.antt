@@ -1,7 +1,7 @@
 use Rattle.std.proofs.Common.{◌≡◌, ◌++◌, drop, false, fold, map}
 use Rattle.leveldb_mem.specs.Log.{framed, log_block_size}
 use Rattle.leveldb_mem.specs.Log.Writer.{after_frame, new_writer}
-use Rattle.leveldb_version.specs.NewManifest.{manifest_bytes}
+use Rattle.leveldb_version.specs.Sets.NewManifest.{manifest_bytes}
 use Rattle.leveldb_version.proofs.version_set.new_manifest.frame_records.Given as goal
 
 abbrev pub invariant-loop-record : goal.invariant-loop-record

@@ -1,7 +1,7 @@
 use Rattle.std.proofs.Common.{◌≡◌, rules}
 use Rattle.leveldb_env.proofs.EnvLemmas.{ChangesFiles-refused, Run-call, Run-mono}
-use Rattle.leveldb_version.specs.Paths.{manifest_path}
-use Rattle.leveldb_version.proofs.NewManifestLemmas.{at_current, beside, manifest_made}
+use Rattle.leveldb_files.specs.Stores.Paths.{manifest_path}
+use Rattle.leveldb_version.proofs.Sets.NewManifestLemmas.{at_current, beside, manifest_made}
 use Rattle.leveldb_version.proofs.version_set.new_manifest.make_manifest.Goals as goal
 
 pub returns-in_err-file-clause-does : goal.returns-in_err-file-clause-does

@@ -1,7 +1,7 @@
 use Rattle.std.proofs.Common.{◌≡◌, Ok}
 use Rattle.std.proofs.lemmas.Result.{err_from_is_err_and}
 use Rattle.leveldb_env.proofs.WholeFilesLemmas.{found_ok}
-use Rattle.leveldb_version.proofs.RecoverLemmas.{replay_refused, size_unread}
+use Rattle.leveldb_version.proofs.Sets.RecoverLemmas.{replay_refused, size_unread}
 use Rattle.leveldb_version.proofs.version_set.recover.read_manifest.Goals as goal
 
 pub returns-in_err-left-clause-cause : goal.returns-in_err-left-clause-cause

@@ -1,6 +1,6 @@
 use Rattle.std.specs.Prelude.{string_bytes}
 use Rattle.std.proofs.lemmas.Result.{err_from_is_err_and}
-use Rattle.leveldb_version.proofs.RecoverLemmas.{reopened, reopened_unsynced}
+use Rattle.leveldb_version.proofs.Sets.RecoverLemmas.{reopened, reopened_unsynced}
 use Rattle.leveldb_version.proofs.version_set.recover.reopen.Goals as goal
 
 pub returns-in_err-sync-clause-does : goal.returns-in_err-sync-clause-does

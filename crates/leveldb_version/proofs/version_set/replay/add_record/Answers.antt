@@ -1,5 +1,5 @@
 use Rattle.std.proofs.lemmas.Result.{err_from_is_err_and}
-use Rattle.leveldb_version.proofs.ReplayLemmas.{no_edit_decoded}
+use Rattle.leveldb_version.proofs.Sets.ReplayLemmas.{no_edit_decoded}
 use Rattle.leveldb_version.proofs.version_set.replay.add_record.Goals as goal
 
 pub returns-in_err-edit-clause-cause : goal.returns-in_err-edit-clause-cause

@@ -1,8 +1,8 @@
 use Rattle.std.proofs.Common.{List, ap, refl}
 use Rattle.std.proofs.lemmas.Result.{err_from_is_err_and}
-use Rattle.leveldb_version.specs.Replay.{with_files}
-use Rattle.leveldb_version.specs.VersionEdit.{NewFile}
-use Rattle.leveldb_version.proofs.ReplayFileLemmas.{replay_out, replayed_whole}
+use Rattle.leveldb_version.specs.Sets.Replay.{with_files}
+use Rattle.leveldb_files.specs.Edits.Edit.{NewFile}
+use Rattle.leveldb_version.proofs.Sets.ReplayFileLemmas.{replay_out, replayed_whole}
 use Rattle.leveldb_version.proofs.version_set.replay.replay.Goals as goal
 
 pub returns-in_err-left-2-clause-err : goal.returns-in_err-left-2-clause-err

@@ -1,7 +1,7 @@
 use Rattle.std.proofs.Common.{ap, arith}
 use Rattle.std.proofs.lemmas.Result.{err_from_is_err_and}
 use Rattle.leveldb_mem.specs.Log.Reader.{ReaderState}
-use Rattle.leveldb_version.proofs.ReplayFileLemmas.{replay_refused, replay_stopped, replay_too_long, replayed_clean, replayed_torn, replayed_wrong, replaying_more, replaying_none}
+use Rattle.leveldb_version.proofs.Sets.ReplayFileLemmas.{replay_refused, replay_stopped, replay_too_long, replayed_clean, replayed_torn, replayed_wrong, replaying_more, replaying_none}
 use Rattle.leveldb_version.proofs.version_set.replay.replay_records.Goals as goal
 
 pub loop-count-init : goal.loop-count-init

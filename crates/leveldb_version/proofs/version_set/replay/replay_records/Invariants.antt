@@ -1,5 +1,5 @@
-use Rattle.leveldb_version.specs.FilesInOrder.{ArePlaced, ordered_files}
-use Rattle.leveldb_version.proofs.ReplayFileLemmas.{Replaying}
+use Rattle.leveldb_version.specs.Edits.FilesInOrder.{ArePlaced, ordered_files}
+use Rattle.leveldb_version.proofs.Sets.ReplayFileLemmas.{Replaying}
 use Rattle.leveldb_version.proofs.version_set.replay.replay_records.Given as goal
 
 -- the records that were read are applied

@@ -1,7 +1,7 @@
 use Rattle.std.proofs.Common.{rules}
 use Rattle.std.proofs.lemmas.Result.{MatchResult-weaker}
 use Rattle.leveldb_env.proofs.EnvFileLemmas.{ends_as}
-use Rattle.leveldb_version.proofs.ReplayFileLemmas.{ReplaysRest-borrowed, StopsReplay-borrowed}
+use Rattle.leveldb_version.proofs.Sets.ReplayFileLemmas.{ReplaysRest-borrowed, StopsReplay-borrowed}
 use Rattle.leveldb_version.proofs.version_set.replay.replay_rest.Goals as goal
 
 pub returns-clause-ok : goal.returns-clause-ok

@@ -1,8 +1,9 @@
 use Rattle.std.proofs.Common.{◌≡◌, ◌∙◌, ◌+◌, ◌++◌, ◌∷◌, [], Bor, List, ℕ, append_assoc, ap, map, sym, take}
 use Rattle.std.specs.Prelude.{string_bytes}
-use Rattle.leveldb_version.proofs.SummaryLemmas.{lead_after, lead_more, none_more, one_more, text_more}
-use Rattle.leveldb_version.specs.Summary.{file_text, files_of_level, files_text}
-use Rattle.leveldb_version.specs.VersionEdit.{NewFile, new_file_of}
+use Rattle.leveldb_files.proofs.Levels.SummaryLemmas.{lead_after, lead_more, none_more, one_more, text_more}
+use Rattle.leveldb_files.specs.Levels.Summary.{file_text, files_of_level, files_text}
+use Rattle.leveldb_files.specs.Edits.Edit.{NewFile}
+use Rattle.leveldb_version.specs.Edits.VersionEdit.{new_file_of}
 use Rattle.leveldb_version.proofs.version_set.summary.put_files.Goals as goal
 use Rattle.leveldb_version.proofs.version_set.summary.put_files.Goals.{then-file-level+in_ok-put_file, else-file-level}
 

@@ -1,8 +1,8 @@
 use Rattle.std.proofs.Common.{◌≡◌, ◌++◌, [], map, take}
 use Rattle.std.specs.Prelude.{string_bytes}
-use Rattle.leveldb_version.specs.Summary.{files_of_level, files_text}
-use Rattle.leveldb_version.specs.VersionEdit.{new_file_of}
-use Rattle.leveldb_version.proofs.SummaryLemmas.{lead_after}
+use Rattle.leveldb_files.specs.Levels.Summary.{files_of_level, files_text}
+use Rattle.leveldb_version.specs.Edits.VersionEdit.{new_file_of}
+use Rattle.leveldb_files.proofs.Levels.SummaryLemmas.{lead_after}
 use Rattle.leveldb_version.proofs.version_set.summary.put_files.Given as goal
 
 abbrev pub invariant-loop-file : goal.invariant-loop-file

@@ -1,6 +1,6 @@
 use Rattle.std.proofs.Common.{◌≡◌, ◌≤◌, length, map, take}
-use Rattle.leveldb_version.specs.Summary.{files_of_level, total_size}
-use Rattle.leveldb_version.specs.VersionEdit.{new_file_of}
+use Rattle.leveldb_files.specs.Levels.Summary.{files_of_level, total_size}
+use Rattle.leveldb_version.specs.Edits.VersionEdit.{new_file_of}
 use Rattle.leveldb_version.proofs.version_set.summary.totals.Given as goal
 
 abbrev pub invariant-loop-file : goal.invariant-loop-file

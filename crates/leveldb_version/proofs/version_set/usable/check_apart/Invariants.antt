@@ -1,6 +1,6 @@
 use Rattle.std.proofs.Common.{take}
-use Rattle.leveldb_version.specs.Usable.{AreAllApart}
-use Rattle.leveldb_version.proofs.UsableLemmas.{as_new_files}
+use Rattle.leveldb_version.specs.Sets.Usable.{AreAllApart}
+use Rattle.leveldb_version.proofs.Sets.UsableLemmas.{as_new_files}
 use Rattle.leveldb_version.proofs.version_set.usable.check_apart.Given as goal
 
 abbrev pub invariant-loop-file : goal.invariant-loop-file

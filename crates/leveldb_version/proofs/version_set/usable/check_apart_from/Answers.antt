@@ -1,10 +1,11 @@
 use Rattle.std.proofs.Common.{List, subst, sym, take}
 use Rattle.std.proofs.lemmas.Result.{err_from_is_err_and}
 use Rattle.std.proofs.lemmas.List.{take_all}
-use Rattle.leveldb_version.specs.Levels.{AreDisjoint}
-use Rattle.leveldb_version.specs.Usable.{ArePeers, IsApartFrom}
-use Rattle.leveldb_version.specs.VersionEdit.{NewFile, new_file_of}
-use Rattle.leveldb_version.proofs.UsableLemmas.{as_new_files, each_more, file_is_one, files_more}
+use Rattle.leveldb_files.specs.Levels.Levels.{AreDisjoint}
+use Rattle.leveldb_version.specs.Sets.Usable.{ArePeers, IsApartFrom}
+use Rattle.leveldb_files.specs.Edits.Edit.{NewFile}
+use Rattle.leveldb_version.specs.Edits.VersionEdit.{new_file_of}
+use Rattle.leveldb_version.proofs.Sets.UsableLemmas.{as_new_files, each_more, file_is_one, files_more}
 use Rattle.leveldb_version.proofs.version_set.usable.check_apart_from.Goals as goal
 
 pub returns-in_err-check_pair-clause-cause : goal.returns-in_err-check_pair-clause-cause

@@ -1,7 +1,7 @@
 use Rattle.std.proofs.Common.{take}
-use Rattle.leveldb_version.specs.Usable.{IsApartFrom}
-use Rattle.leveldb_version.specs.VersionEdit.{new_file_of}
-use Rattle.leveldb_version.proofs.UsableLemmas.{as_new_files}
+use Rattle.leveldb_version.specs.Sets.Usable.{IsApartFrom}
+use Rattle.leveldb_version.specs.Edits.VersionEdit.{new_file_of}
+use Rattle.leveldb_version.proofs.Sets.UsableLemmas.{as_new_files}
 use Rattle.leveldb_version.proofs.version_set.usable.check_apart_from.Given as goal
 
 abbrev pub invariant-loop-other : goal.invariant-loop-other

@@ -3,9 +3,9 @@ use Rattle.std.specs.Prelude.{string_bytes}
 use Rattle.std.specs.Option.{option_map}
 use Rattle.std.proofs.lemmas.Result.{err_from_is_err_and}
 use Rattle.leveldb_base.specs.declared.types.FileMetaData.{FileMetaData}
-use Rattle.leveldb_version.specs.Usable.{AreAllApart, HasClash, IsOtherComparator}
-use Rattle.leveldb_version.specs.VersionSet.{HaveKeyRanges}
-use Rattle.leveldb_version.proofs.UsableLemmas.{as_new_files, clash_refused, comparator_refused, edits_usable, if_err_more, number_refused, on_ok_more, ranges_refused, start_refused}
+use Rattle.leveldb_version.specs.Sets.Usable.{AreAllApart, HasClash, IsOtherComparator}
+use Rattle.leveldb_files.specs.Edits.VersionSet.{HaveKeyRanges}
+use Rattle.leveldb_version.proofs.Sets.UsableLemmas.{as_new_files, clash_refused, comparator_refused, edits_usable, if_err_more, number_refused, on_ok_more, ranges_refused, start_refused}
 use Rattle.leveldb_version.proofs.version_set.usable.check_usable.Goals as goal
 
 pub returns-in_err-check_comparator-clause-cause : goal.returns-in_err-check_comparator-clause-cause

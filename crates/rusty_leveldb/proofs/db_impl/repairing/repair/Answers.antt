@@ -5,11 +5,11 @@ use Rattle.std.proofs.lemmas.Result.{err_from_is_err_and}
 use Rattle.leveldb_base.specs.CmpLaws.{total_order}
 use Rattle.leveldb_env.proofs.EnvLemmas.{Run-call}
 use Rattle.leveldb_env.specs.contracts.compressor.CompressorListCompressors.TheImpl.{ghosts as compressors}
-use Rattle.rusty_leveldb.specs.Engine.{opening_of}
-use Rattle.rusty_leveldb.proofs.AskedLemmas.{within_if, within_is}
-use Rattle.rusty_leveldb.proofs.OpenCallLemmas.{lock_excused, near_folder, near_lock, near_still, why_of}
-use Rattle.rusty_leveldb.proofs.RepairCallLemmas.{done_repairs, early_repairs, late_repairs}
-use Rattle.rusty_leveldb.proofs.UnderLockLemmas.{lock_taken}
+use Rattle.rusty_leveldb.specs.Engines.Engine.{opening_of}
+use Rattle.rusty_leveldb.proofs.Openings.AskedLemmas.{within_if, within_is}
+use Rattle.rusty_leveldb.proofs.Openings.OpenCallLemmas.{lock_excused, near_folder, near_lock, near_still, why_of}
+use Rattle.rusty_leveldb.proofs.Repairs.RepairCallLemmas.{done_repairs, early_repairs, late_repairs}
+use Rattle.rusty_leveldb.proofs.Openings.UnderLockLemmas.{lock_taken}
 use Rattle.rusty_leveldb.proofs.db_impl.repairing.repair.Goals as goal
 
 -- a compressor that isn't set

@@ -2,11 +2,11 @@
 use Rattle.std.specs.Prelude.{OnOk}
 use Rattle.std.proofs.Common.{◌≡◌, ◌∙◌, ap, false, refl, subst, sym, true}
 use Rattle.std.proofs.lemmas.Result.{err_from_is_err_and}
-use Rattle.leveldb_store.specs.KeptEntries.{CompactsOnceAtMost}
-use Rattle.leveldb_store.specs.LoggedEdits.{LogsByScore}
-use Rattle.leveldb_store.specs.OpenStore.{OpenStoreValue}
-use Rattle.rusty_leveldb.proofs.ChargesLemmas.{charged_tables}
-use Rattle.rusty_leveldb.proofs.RoomInLemmas.{room_compacted, room_not_made, room_there}
+use Rattle.leveldb_store.specs.Keeping.KeptEntries.{CompactsOnceAtMost}
+use Rattle.leveldb_store.specs.Keeping.LoggedEdits.{LogsByScore}
+use Rattle.leveldb_store.specs.Keeping.OpenStore.{OpenStoreValue}
+use Rattle.rusty_leveldb.proofs.Walks.ChargesLemmas.{charged_tables}
+use Rattle.rusty_leveldb.proofs.Engines.RoomInLemmas.{room_compacted, room_not_made, room_there}
 use Rattle.rusty_leveldb.proofs.db_impl.write.room_in.Goals as goal
 
 pub returns-then-not-is_full-clause-makes : goal.returns-then-not-is_full-clause-makes

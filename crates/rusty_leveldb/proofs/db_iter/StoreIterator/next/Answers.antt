@@ -1,7 +1,7 @@
 use Rattle.std.proofs.lemmas.Result.{err_from_is_err_and}
 use Rattle.leveldb_base.specs.Types.{next_position}
-use Rattle.rusty_leveldb.specs.Iterator.{no_cause}
-use Rattle.rusty_leveldb.proofs.IteratorLemmas.{moves_err, moves_lost}
+use Rattle.rusty_leveldb.specs.Walks.Iterator.{no_cause}
+use Rattle.rusty_leveldb.proofs.Walks.IteratorLemmas.{moves_err, moves_lost}
 use Rattle.rusty_leveldb.proofs.db_iter.StoreIterator.next.Goals as goal
 
 pub returns-in_err-advance-clause-moves : goal.returns-in_err-advance-clause-moves

@@ -1,4 +1,4 @@
-use Rattle.rusty_leveldb.proofs.IteratorLemmas.{moved_off}
+use Rattle.rusty_leveldb.proofs.Walks.IteratorLemmas.{moved_off}
 use Rattle.rusty_leveldb.proofs.db_iter.StoreIterator.reset.Goals as goal
 
 pub returns-clause-moves : goal.returns-clause-moves

@@ -2,7 +2,7 @@ use Rattle.std.proofs.Common.{refl, ◌≡◌}
 use Rattle.leveldb_base.specs.Types.{seek_position}
 use Rattle.leveldb_base.specs.declared.error.StatusCode.TheVariants.{InvalidArgument}
 use Rattle.leveldb_base.specs.KeyTypes.{IsLongKey}
-use Rattle.rusty_leveldb.proofs.IteratorLemmas.{moved, moves_refused}
+use Rattle.rusty_leveldb.proofs.Walks.IteratorLemmas.{moved, moves_refused}
 use Rattle.rusty_leveldb.proofs.db_iter.StoreIterator.seek.Goals as goal
 
 pub returns-in-Err-clause-moves : goal.returns-in-Err-clause-moves

@@ -1,7 +1,7 @@
 use Rattle.std.proofs.Common.{refl}
 use Rattle.leveldb_base.specs.Types.{last_position}
-use Rattle.rusty_leveldb.specs.Iterator.{no_cause}
-use Rattle.rusty_leveldb.proofs.IteratorLemmas.{moved}
+use Rattle.rusty_leveldb.specs.Walks.Iterator.{no_cause}
+use Rattle.rusty_leveldb.proofs.Walks.IteratorLemmas.{moved}
 use Rattle.rusty_leveldb.proofs.db_iter.StoreIterator.seek_to_last.Goals as goal
 
 pub returns : goal.returns

@@ -1,4 +1,4 @@
-use Rattle.rusty_leveldb.proofs.ChargesLemmas.{charged_version}
+use Rattle.rusty_leveldb.proofs.Walks.ChargesLemmas.{charged_version}
 use Rattle.rusty_leveldb.proofs.read_samples.ReadSamples.charge.Goals as goal
 
 pub returns-clause-version : goal.returns-clause-version

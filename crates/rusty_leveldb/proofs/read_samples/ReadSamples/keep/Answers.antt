@@ -1,7 +1,7 @@
 -- As many as can be are kept, or one more is.
 use Rattle.std.proofs.Common.{◌≡◌, ◌∙◌, ◌<◌, List, ap, arith, length, sym}
-use Rattle.leveldb_version.specs.VersionEdit.{LevelFile}
-use Rattle.rusty_leveldb.proofs.ReadSamplesLemmas.{no_more, one_more, samples_of}
+use Rattle.leveldb_files.specs.Edits.Edit.{LevelFile}
+use Rattle.rusty_leveldb.proofs.Walks.ReadSamplesLemmas.{no_more, one_more, samples_of}
 use Rattle.rusty_leveldb.proofs.read_samples.ReadSamples.keep.Goals as goal
 
 pub returns-then-len-eq-MOST_CHARGES-clause-ok : goal.returns-then-len-eq-MOST_CHARGES-clause-ok

@@ -6,15 +6,15 @@ use Rattle.leveldb_env.specs.contracts.mem_env.record.RecordEnvEnv.TheImpl.{ghos
 use Rattle.leveldb_env.specs.Record.{moment_of}
 use Rattle.leveldb_env.specs.contracts.compressor.CompressorListCompressors.TheImpl.{ghosts as compressors}
 use Rattle.leveldb_env.specs.contracts.filter.internal.InternalFilterPolicyFilterPolicy.TheImpl.{ghosts as key_policy}
-use Rattle.leveldb_store.specs.BuildTable.{choices_of}
+use Rattle.leveldb_store.specs.Tables.BuildTable.{choices_of}
 use Rattle.rusty_leveldb.specs.declared.shell.commands.Reply.{Reply}
-use Rattle.rusty_leveldb.specs.RunCalls.{CallsInTurn}
-use Rattle.rusty_leveldb.specs.Serves.{done_or, snapshot_of}
-use Rattle.rusty_leveldb.specs.Engine.{opening_of}
-use Rattle.leveldb_version.specs.Format.{format_of}
-use Rattle.rusty_leveldb.proofs.Playing.{commands_up_to}
-use Rattle.rusty_leveldb.proofs.TurnLemmas.{calls_more, calls_step, calls_time}
-use Rattle.rusty_leveldb.proofs.Living.{Given, LivesSoFar, given_more, lives_first, lives_more, lives_end, not_lived}
+use Rattle.rusty_leveldb.specs.Programs.RunCalls.{CallsInTurn}
+use Rattle.rusty_leveldb.specs.Engines.Serves.{done_or, snapshot_of}
+use Rattle.rusty_leveldb.specs.Engines.Engine.{opening_of}
+use Rattle.leveldb_files.specs.Stores.Format.{format_of}
+use Rattle.rusty_leveldb.proofs.Programs.Playing.{commands_up_to}
+use Rattle.rusty_leveldb.proofs.Programs.TurnLemmas.{calls_more, calls_step, calls_time}
+use Rattle.rusty_leveldb.proofs.Programs.Living.{Given, LivesSoFar, given_more, lives_first, lives_more, lives_end, not_lived}
 use Rattle.rusty_leveldb.proofs.shell.crash_runs.live.Goals as goal
 
 pub returns-in-Err-clause-life : goal.returns-in-Err-clause-life

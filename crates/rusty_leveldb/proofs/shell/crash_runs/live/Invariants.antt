@@ -4,12 +4,12 @@ use Rattle.leveldb_env.specs.contracts.mem_env.record.RecordEnvEnv.TheImpl.{ghos
 use Rattle.leveldb_env.specs.Record.{moment_of}
 use Rattle.leveldb_env.specs.contracts.compressor.CompressorListCompressors.TheImpl.{ghosts as compressors}
 use Rattle.leveldb_env.specs.contracts.filter.internal.InternalFilterPolicyFilterPolicy.TheImpl.{ghosts as key_policy}
-use Rattle.leveldb_store.specs.BuildTable.{choices_of}
-use Rattle.rusty_leveldb.specs.Engine.{opening_of}
-use Rattle.rusty_leveldb.specs.RunCalls.{CallsInTurn}
-use Rattle.rusty_leveldb.specs.Serves.{snapshot_of}
-use Rattle.leveldb_version.specs.Format.{format_of}
-use Rattle.rusty_leveldb.proofs.Living.{Given, LivesSoFar}
+use Rattle.leveldb_store.specs.Tables.BuildTable.{choices_of}
+use Rattle.rusty_leveldb.specs.Engines.Engine.{opening_of}
+use Rattle.rusty_leveldb.specs.Programs.RunCalls.{CallsInTurn}
+use Rattle.rusty_leveldb.specs.Engines.Serves.{snapshot_of}
+use Rattle.leveldb_files.specs.Stores.Format.{format_of}
+use Rattle.rusty_leveldb.proofs.Programs.Living.{Given, LivesSoFar}
 use Rattle.rusty_leveldb.proofs.shell.crash_runs.live.Given as goal
 
 abbrev pub invariant-loop-command : goal.invariant-loop-command

@@ -9,11 +9,11 @@ use Rattle.leveldb_env.specs.contracts.mem_env.record.RecordEnvEnv.TheImpl.{ghos
 use Rattle.leveldb_env.specs.Picks.{tails_of}
 use Rattle.leveldb_env.specs.Record.{moment_of, CanCrashTo}
 use Rattle.leveldb_env.specs.contracts.compressor.CompressorListCompressors.TheImpl.{ghosts as compressors}
-use Rattle.leveldb_store.specs.BuildTable.{choices_of}
-use Rattle.rusty_leveldb.specs.RunCalls.{LivesByCalls}
-use Rattle.rusty_leveldb.specs.Lives.{IsCrash, IsAlwaysLife, IsLifeOn}
-use Rattle.rusty_leveldb.specs.Engine.{opening_of}
-use Rattle.rusty_leveldb.proofs.Lives.{next_crash, next_same, reports_more, all_reported, fails_for}
+use Rattle.leveldb_store.specs.Tables.BuildTable.{choices_of}
+use Rattle.rusty_leveldb.specs.Programs.RunCalls.{LivesByCalls}
+use Rattle.rusty_leveldb.specs.Programs.Lives.{IsCrash, IsAlwaysLife, IsLifeOn}
+use Rattle.rusty_leveldb.specs.Engines.Engine.{opening_of}
+use Rattle.rusty_leveldb.proofs.Programs.Lives.{next_crash, next_same, reports_more, all_reported, fails_for}
 use Rattle.rusty_leveldb.proofs.shell.crash_runs.lives.Goals as goal
 use Rattle.rusty_leveldb.proofs.shell.crash_runs.lives.Goals.{in-Some-moment+in_ok-env, in_default}
 

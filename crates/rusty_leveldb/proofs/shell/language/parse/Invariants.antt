@@ -1,7 +1,7 @@
 use Rattle.std.proofs.Common.{length}
 use Rattle.std.specs.Prelude.{All}
-use Rattle.rusty_leveldb.specs.Language.{HasBytes}
-use Rattle.rusty_leveldb.proofs.Lines.{IsRead}
+use Rattle.rusty_leveldb.specs.Programs.Language.{HasBytes}
+use Rattle.rusty_leveldb.proofs.Programs.Lines.{IsRead}
 use Rattle.rusty_leveldb.proofs.shell.language.parse.Given as goal
 
 abbrev pub invariant-loop-rest : goal.invariant-loop-rest

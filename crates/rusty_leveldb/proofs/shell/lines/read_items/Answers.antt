@@ -1,5 +1,5 @@
 use Rattle.std.proofs.Common.{rules, ◌<◌, length}
-use Rattle.rusty_leveldb.proofs.Lines.{no_space_first}
+use Rattle.rusty_leveldb.proofs.Programs.Lines.{no_space_first}
 use Rattle.rusty_leveldb.proofs.shell.lines.read_items.Goals as goal
 
 pub returns-in-None : goal.returns-in-None

@@ -2,9 +2,9 @@ use Rattle.std.proofs.Common.{rules, ◌≡◌, ◌∷◌, ◌++◌, [], ℕ, Li
 use Rattle.std.specs.Prelude.{All}
 use Rattle.std.proofs.lemmas.List.Elements.{All-nil, All-cons, All-append}
 use Rattle.rusty_leveldb.specs.declared.shell.commands.Item.{Item}
-use Rattle.rusty_leveldb.specs.Language.{item_word, words_text, ItemHasBytes}
-use Rattle.rusty_leveldb.specs.Spelling.{IsItems, IsItemReading, rest_text}
-use Rattle.rusty_leveldb.proofs.Lines.{words_more, first_item}
+use Rattle.rusty_leveldb.specs.Programs.Language.{item_word, words_text, ItemHasBytes}
+use Rattle.rusty_leveldb.specs.Programs.Spelling.{IsItems, IsItemReading, rest_text}
+use Rattle.rusty_leveldb.proofs.Programs.Lines.{words_more, first_item}
 use Rattle.rusty_leveldb.proofs.shell.lines.read_words.Goals as goal
 
 pub returns-in_default-2 : goal.returns-in_default-2

@@ -2,9 +2,9 @@ use Rattle.std.proofs.Common.{ℕ, List, ◌++◌, Option, subst, ap, ◌∙◌,
 use Rattle.std.specs.Prelude.{Vec}
 use Rattle.std.specs.declared.alloc.Global.{Global}
 use Rattle.rusty_leveldb.specs.declared.shell.commands.Item.{Item}
-use Rattle.rusty_leveldb.specs.Language.{sync_word}
-use Rattle.rusty_leveldb.specs.Spelling.{IsItemsReading}
-use Rattle.rusty_leveldb.proofs.Lines.{no_sync, no_items}
+use Rattle.rusty_leveldb.specs.Programs.Language.{sync_word}
+use Rattle.rusty_leveldb.specs.Programs.Spelling.{IsItemsReading}
+use Rattle.rusty_leveldb.proofs.Programs.Lines.{no_sync, no_items}
 use Rattle.rusty_leveldb.proofs.shell.lines.read_write.Goals as goal
 
 pub returns-in_default : goal.returns-in_default

@@ -1,7 +1,7 @@
 -- All was answered, or there was a fault.
 use Rattle.std.proofs.Common.{◌∙◌, ap}
-use Rattle.rusty_leveldb.specs.Program.{status_of}
-use Rattle.rusty_leveldb.proofs.Answering.{ends_answered, ends_at_fault}
+use Rattle.rusty_leveldb.specs.Programs.Program.{status_of}
+use Rattle.rusty_leveldb.proofs.Programs.Answering.{ends_answered, ends_at_fault}
 use Rattle.rusty_leveldb.proofs.shell.program.ldb_main.Goals as goal
 
 pub returns-in-Ok-clause-ends : goal.returns-in-Ok-clause-ends

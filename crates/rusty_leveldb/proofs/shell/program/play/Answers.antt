@@ -1,4 +1,4 @@
-use Rattle.rusty_leveldb.proofs.Answering.{has_run, played, default_fits, default_compresses, asks_so}
+use Rattle.rusty_leveldb.proofs.Programs.Answering.{has_run, played, default_fits, default_compresses, asks_so}
 use Rattle.rusty_leveldb.proofs.shell.program.play.Goals as goal
 
 pub returns-clause-played : goal.returns-clause-played

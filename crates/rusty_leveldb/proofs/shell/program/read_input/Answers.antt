@@ -1,5 +1,5 @@
 use Rattle.std.proofs.Common.{rules, arith, ◌≡◌, ◌<◌, length}
-use Rattle.rusty_leveldb.proofs.Inputs.{whole_input}
+use Rattle.rusty_leveldb.proofs.Programs.Inputs.{whole_input}
 use Rattle.rusty_leveldb.proofs.shell.program.read_input.Goals as goal
 
 pub returns-clause-ok : goal.returns-clause-ok

@@ -1,6 +1,6 @@
 use Rattle.std.proofs.Common.{rules}
-use Rattle.rusty_leveldb.proofs.Answering.{asks_so, default_compresses, default_fits}
-use Rattle.rusty_leveldb.proofs.RepairingFolderLemmas.{chooses_so, repaired_folder}
+use Rattle.rusty_leveldb.proofs.Programs.Answering.{asks_so, default_compresses, default_fits}
+use Rattle.rusty_leveldb.proofs.Repairs.RepairingFolderLemmas.{chooses_so, repaired_folder}
 use Rattle.rusty_leveldb.proofs.shell.program.repair_folder.Goals as goal
 
 pub returns-in_err-repair-clause-repaired : goal.returns-in_err-repair-clause-repaired

@@ -1,6 +1,6 @@
 use Rattle.std.proofs.Common.{rules, inl, inr}
-use Rattle.rusty_leveldb.proofs.Playing.{OnErr-always}
-use Rattle.rusty_leveldb.specs.Program.{NamesNone}
+use Rattle.rusty_leveldb.proofs.Programs.Playing.{OnErr-always}
+use Rattle.rusty_leveldb.specs.Programs.Program.{NamesNone}
 use Rattle.rusty_leveldb.specs.declared.shell.program.Task.TheVariants as task
 use Rattle.rusty_leveldb.proofs.shell.program.serve.Goals as goal
 

@@ -1,7 +1,7 @@
 -- A look-up, and a walk over the store as it is now.
 use Rattle.std.proofs.Common.{[]}
-use Rattle.rusty_leveldb.specs.Views.{steps_or}
-use Rattle.rusty_leveldb.proofs.RunAloneLemmas.{answered_get, answered_walk}
+use Rattle.rusty_leveldb.specs.Programs.Views.{steps_or}
+use Rattle.rusty_leveldb.proofs.Programs.RunAloneLemmas.{answered_get, answered_walk}
 use Rattle.rusty_leveldb.proofs.shell.reading.answer.Goals as goal
 
 pub returns-in-Get : goal.returns-in-Get

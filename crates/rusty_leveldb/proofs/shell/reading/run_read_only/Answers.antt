@@ -4,10 +4,10 @@ use Rattle.std.proofs.Math.Seq.{drop-length, drop-append_seam}
 use Rattle.std.proofs.lemmas.List.{take_all}
 use Rattle.std.proofs.lemmas.Result.{err_from_is_err_and}
 use Rattle.leveldb_env.specs.contracts.compressor.CompressorListCompressors.TheImpl.{ghosts as compressors}
-use Rattle.leveldb_version.specs.Format.{format_of}
-use Rattle.rusty_leveldb.specs.Engine.{opening_of}
-use Rattle.rusty_leveldb.proofs.Playing.{commands_up_to}
-use Rattle.rusty_leveldb.proofs.RunAloneLemmas.{read_run, so_far_first, so_far_more, starved_run, unread_run}
+use Rattle.leveldb_files.specs.Stores.Format.{format_of}
+use Rattle.rusty_leveldb.specs.Engines.Engine.{opening_of}
+use Rattle.rusty_leveldb.proofs.Programs.Playing.{commands_up_to}
+use Rattle.rusty_leveldb.proofs.Programs.RunAloneLemmas.{read_run, so_far_first, so_far_more, starved_run, unread_run}
 use Rattle.rusty_leveldb.proofs.shell.reading.run_read_only.Goals as goal
 
 pub returns-in_err-reserve-clause-reads : goal.returns-in_err-reserve-clause-reads

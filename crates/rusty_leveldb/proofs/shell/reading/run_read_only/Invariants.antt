@@ -1,9 +1,9 @@
 use Rattle.std.proofs.Common.{◌≡◌, ◌≤◌, ◌++◌, ◌+◌, ◌-◌, List, length, take, vec_len, vec_capacity}
 use Rattle.leveldb_base.specs.contracts.cmp.internal.InternalKeyCmpCmp.TheImpl.{ghosts as key_order}
 use Rattle.leveldb_env.specs.contracts.compressor.CompressorListCompressors.TheImpl.{ghosts as compressors}
-use Rattle.leveldb_version.specs.Format.{format_of}
+use Rattle.leveldb_files.specs.Stores.Format.{format_of}
 use Rattle.rusty_leveldb.specs.declared.shell.commands.Reply.{Reply}
-use Rattle.rusty_leveldb.proofs.RunAloneLemmas.{ReadsSoFar}
+use Rattle.rusty_leveldb.proofs.Programs.RunAloneLemmas.{ReadsSoFar}
 use Rattle.rusty_leveldb.proofs.shell.reading.run_read_only.Given as goal
 
 abbrev pub invariant-loop-command : goal.invariant-loop-command

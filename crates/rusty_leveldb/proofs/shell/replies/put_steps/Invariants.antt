@@ -1,6 +1,6 @@
 use Rattle.std.proofs.Common.{◌≡◌, ◌++◌, take}
 use Rattle.std.specs.Prelude.{flat_map}
-use Rattle.rusty_leveldb.specs.Language.{step_line}
+use Rattle.rusty_leveldb.specs.Programs.Language.{step_line}
 use Rattle.rusty_leveldb.proofs.shell.replies.put_steps.Given as goal
 
 abbrev pub invariant-loop-step : goal.invariant-loop-step

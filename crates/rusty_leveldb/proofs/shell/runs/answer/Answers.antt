@@ -1,7 +1,7 @@
 -- Each command is a call of the engine, whose result the reply tells.
 use Rattle.std.proofs.Common.{[], Ok, Err, append-nil, map, refl, sym, ◌∙◌}
 use Rattle.std.proofs.lemmas.List.{length-map}
-use Rattle.rusty_leveldb.specs.Serves.{snapshot_of}
+use Rattle.rusty_leveldb.specs.Engines.Serves.{snapshot_of}
 use Rattle.rusty_leveldb.proofs.shell.runs.answer.Goals as goal
 
 pub returns-in-Put : goal.returns-in-Put

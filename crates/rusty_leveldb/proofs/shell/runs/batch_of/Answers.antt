@@ -1,5 +1,5 @@
 use Rattle.std.proofs.Common.{rules}
-use Rattle.rusty_leveldb.proofs.Batching.{too_long_among}
+use Rattle.rusty_leveldb.proofs.Engines.Batching.{too_long_among}
 use Rattle.rusty_leveldb.proofs.shell.runs.batch_of.Goals as goal
 
 pub returns-in_err-add-clause-cause : goal.returns-in_err-add-clause-cause

@@ -3,13 +3,13 @@ use Rattle.std.proofs.Math.Seq.{drop-length, drop-append_seam}
 use Rattle.std.proofs.lemmas.List.{take_all}
 use Rattle.std.proofs.lemmas.Result.{err_from_is_err_and}
 use Rattle.leveldb_env.specs.contracts.compressor.CompressorListCompressors.TheImpl.{ghosts as compressors}
-use Rattle.rusty_leveldb.proofs.UnopenedLemmas.{given_back_under}
+use Rattle.rusty_leveldb.proofs.Openings.UnopenedLemmas.{given_back_under}
 use Rattle.leveldb_env.proofs.FilterBlockLemmas.{on_ok}
-use Rattle.rusty_leveldb.proofs.Playing.{abandon_fails, play_first, play_more, play_end, not_opened, not_begun, commands_up_to}
-use Rattle.rusty_leveldb.proofs.TurnLemmas.{calls_later, calls_more, calls_step, calls_time}
-use Rattle.rusty_leveldb.specs.Engine.{opening_of}
-use Rattle.rusty_leveldb.specs.Serves.{snapshot_of}
-use Rattle.leveldb_version.specs.Format.{format_of}
+use Rattle.rusty_leveldb.proofs.Programs.Playing.{abandon_fails, play_first, play_more, play_end, not_opened, not_begun, commands_up_to}
+use Rattle.rusty_leveldb.proofs.Programs.TurnLemmas.{calls_later, calls_more, calls_step, calls_time}
+use Rattle.rusty_leveldb.specs.Engines.Engine.{opening_of}
+use Rattle.rusty_leveldb.specs.Engines.Serves.{snapshot_of}
+use Rattle.leveldb_files.specs.Stores.Format.{format_of}
 use Rattle.rusty_leveldb.proofs.shell.runs.run.Goals as goal
 
 pub returns-in_err-reserve-clause-runs : goal.returns-in_err-reserve-clause-runs

@@ -3,13 +3,13 @@ use Rattle.leveldb_base.specs.contracts.cmp.internal.InternalKeyCmpCmp.TheImpl.{
 use Rattle.leveldb_env.specs.contracts.compressor.CompressorListCompressors.TheImpl.{ghosts as compressors}
 use Rattle.leveldb_env.specs.contracts.filter.internal.InternalFilterPolicyFilterPolicy.TheImpl.{ghosts as key_policy}
 use Rattle.rusty_leveldb.specs.declared.shell.commands.Reply.{Reply}
-use Rattle.rusty_leveldb.specs.Engine.{opening_of}
-use Rattle.rusty_leveldb.specs.Serves.{snapshot_of}
-use Rattle.leveldb_version.specs.Format.{format_of}
-use Rattle.leveldb_store.specs.BuildTable.{choices_of}
-use Rattle.leveldb_store.specs.SoundCall.{TimeGoesOn}
-use Rattle.rusty_leveldb.specs.RunCalls.{CallsInTurn}
-use Rattle.rusty_leveldb.proofs.Playing.{RunsCommandsSoFar}
+use Rattle.rusty_leveldb.specs.Engines.Engine.{opening_of}
+use Rattle.rusty_leveldb.specs.Engines.Serves.{snapshot_of}
+use Rattle.leveldb_files.specs.Stores.Format.{format_of}
+use Rattle.leveldb_store.specs.Tables.BuildTable.{choices_of}
+use Rattle.leveldb_store.specs.Keeping.SoundCall.{TimeGoesOn}
+use Rattle.rusty_leveldb.specs.Programs.RunCalls.{CallsInTurn}
+use Rattle.rusty_leveldb.proofs.Programs.Playing.{RunsCommandsSoFar}
 use Rattle.rusty_leveldb.proofs.shell.runs.run.Given as goal
 
 abbrev pub invariant-loop-command : goal.invariant-loop-command

@@ -5,11 +5,11 @@ use Rattle.std.proofs.lemmas.Result.{err_from_is_err_and}
 use Rattle.leveldb_base.specs.contracts.cmp.internal.InternalKeyCmpCmp.TheImpl.{ghosts as key_order}
 use Rattle.leveldb_env.specs.contracts.compressor.CompressorListCompressors.TheImpl.{ghosts as compressors}
 use Rattle.leveldb_env.specs.contracts.filter.internal.InternalFilterPolicyFilterPolicy.TheImpl.{ghosts as key_policy}
-use Rattle.leveldb_store.specs.BuildTable.{choices_of}
-use Rattle.rusty_leveldb.specs.Calls.{EngineWrites}
-use Rattle.rusty_leveldb.specs.Shell.{change_of}
-use Rattle.rusty_leveldb.proofs.CallsLemmas.{halted_writes}
-use Rattle.rusty_leveldb.proofs.WriteCallLemmas.{unmade_serves}
+use Rattle.leveldb_store.specs.Tables.BuildTable.{choices_of}
+use Rattle.rusty_leveldb.specs.Engines.Calls.{EngineWrites}
+use Rattle.rusty_leveldb.specs.Programs.Shell.{change_of}
+use Rattle.rusty_leveldb.proofs.Engines.CallsLemmas.{halted_writes}
+use Rattle.rusty_leveldb.proofs.Engines.WriteCallLemmas.{unmade_serves}
 use Rattle.rusty_leveldb.proofs.shell.runs.write.Goals as goal
 
 pub returns-in_err-check_writable : goal.returns-in_err-check_writable

@@ -4,8 +4,8 @@ use Rattle.std.proofs.lemmas.Result.{err_from_is_err_and}
 use Rattle.leveldb_base.specs.contracts.cmp.internal.InternalKeyCmpCmp.TheImpl.{ghosts as key_order}
 use Rattle.leveldb_env.specs.contracts.compressor.CompressorListCompressors.TheImpl.{ghosts as compressors}
 use Rattle.leveldb_env.specs.contracts.filter.internal.InternalFilterPolicyFilterPolicy.TheImpl.{ghosts as key_policy}
-use Rattle.leveldb_store.specs.BuildTable.{choices_of}
-use Rattle.rusty_leveldb.proofs.SnapshotLemmas.{closed_gives, gives_none}
+use Rattle.leveldb_store.specs.Tables.BuildTable.{choices_of}
+use Rattle.rusty_leveldb.proofs.Engines.SnapshotLemmas.{closed_gives, gives_none}
 use Rattle.rusty_leveldb.proofs.shell.views.take.Goals as goal
 
 pub returns-in_err-check_not_closed-clause-err : goal.returns-in_err-check_not_closed-clause-err

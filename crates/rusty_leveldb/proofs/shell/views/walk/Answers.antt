@@ -1,6 +1,6 @@
 -- A walk now, at the snapshot that is named, or none.
 use Rattle.std.proofs.Common.{sym}
-use Rattle.rusty_leveldb.proofs.TurnLemmas.{held_none, held_one}
+use Rattle.rusty_leveldb.proofs.Programs.TurnLemmas.{held_none, held_one}
 use Rattle.rusty_leveldb.proofs.shell.views.walk.Goals as goal
 
 pub returns-in_default : goal.returns-in_default

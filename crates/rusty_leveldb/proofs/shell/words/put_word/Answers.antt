@@ -1,7 +1,7 @@
 use Rattle.std.proofs.Common.{rules, ◌≡◌, ◌++◌, ◌∷◌, [], ℕ, List, take, slice_index_or, sym, ap, ◌∙◌, append-nil, append_assoc}
 use Rattle.std.proofs.lemmas.List.{take_more}
 use Rattle.hex.specs.Hex.{encode_lower, lower_digits}
-use Rattle.rusty_leveldb.proofs.Words.{encode_none, encode_more}
+use Rattle.rusty_leveldb.proofs.Programs.Words.{encode_none, encode_more}
 use Rattle.rusty_leveldb.proofs.shell.words.put_word.Goals as goal
 
 pub loop-byte-init : goal.loop-byte-init

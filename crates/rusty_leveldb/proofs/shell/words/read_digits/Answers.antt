@@ -1,6 +1,6 @@
 use Rattle.std.proofs.Common.{rules, arith, ◌≡◌, ◌≢◌, inl, inr, codes}
 use Rattle.hex.proofs.HexLemmas.{decode_of-ok}
-use Rattle.rusty_leveldb.proofs.Words.{decoded_is, not_decoded, dot_spells}
+use Rattle.rusty_leveldb.proofs.Programs.Words.{decoded_is, not_decoded, dot_spells}
 use Rattle.rusty_leveldb.proofs.shell.words.read_digits.Goals as goal
 
 pub returns-then-eq : goal.returns-then-eq

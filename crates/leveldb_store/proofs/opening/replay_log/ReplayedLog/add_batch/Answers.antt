@@ -1,7 +1,7 @@
 use Rattle.std.proofs.Common.{◌∙◌, arith, subst, sym}
 use Rattle.leveldb_base.specs.History.{AreUpTo}
 use Rattle.leveldb_mem.proofs.EntryLemmas.{new_after}
-use Rattle.leveldb_store.proofs.ReplayLogLemmas.{TakesBatch-none, TakesBatch-some, no_room_left}
+use Rattle.leveldb_store.proofs.Logs.ReplayLogLemmas.{TakesBatch-none, TakesBatch-some, no_room_left}
 use Rattle.leveldb_store.proofs.opening.replay_log.ReplayedLog.add_batch.Goals as goal
 use Rattle.leveldb_store.proofs.opening.replay_log.ReplayedLog.add_batch.Goals.{then-count-gt0, else-count-gt0}
 

@@ -1,6 +1,6 @@
 use Rattle.std.proofs.Common.{◌∙◌, sym}
 use Rattle.std.proofs.lemmas.Result.{err_from_is_err_and}
-use Rattle.leveldb_store.proofs.ReplayLogLemmas.{MakesRestTable-done, MakesRestTable-unbuilt, MakesRestTable-unlisted}
+use Rattle.leveldb_store.proofs.Logs.ReplayLogLemmas.{MakesRestTable-done, MakesRestTable-unbuilt, MakesRestTable-unlisted}
 use Rattle.leveldb_store.proofs.opening.replay_log.ReplayedLog.make_table.Goals as goal
 
 pub returns-in_err-file : goal.returns-in_err-file

@@ -1,6 +1,6 @@
 use Rattle.std.proofs.Common.{Err, Ok, ap, arith, inl, inr, length}
 use Rattle.std.proofs.lemmas.Result.{err_from_is_err_and}
-use Rattle.leveldb_store.proofs.ReplayLogLemmas.{TakesNextBatch-added, TakesNextBatch-refused, TakesNextBatch-tables_made, fails_to_add, none_of_length}
+use Rattle.leveldb_store.proofs.Logs.ReplayLogLemmas.{TakesNextBatch-added, TakesNextBatch-refused, TakesNextBatch-tables_made, fails_to_add, none_of_length}
 use Rattle.leveldb_store.proofs.opening.replay_log.ReplayedLog.take_batch.Goals as goal
 use Rattle.leveldb_store.proofs.opening.replay_log.ReplayedLog.take_batch.Goals.{then-len-gt0+then-approx_mem_usage-options+in_ok-make_table, else-len-gt0, else-len-gt0-via-then-len-gt0+else-approx_mem_usage-options, else-len-gt0-via-else-len-gt0}
 

@@ -1,8 +1,8 @@
 use Rattle.std.proofs.Common.{◌≡◌, ◌∙◌, ◌<◌, ◌+◌, ◌-◌, ◌^◌, ap, length, nat_lt, subst, sym}
 use Rattle.std.proofs.lemmas.Bool.{le-ltb, lt-ltb}
 use Rattle.std.specs.Prelude.{if◌then◌else◌, min}
-use Rattle.leveldb_version.specs.Cut.{CutValue}
-use Rattle.leveldb_version.proofs.CutLemmas.{passes_files}
+use Rattle.leveldb_version.specs.Compactions.Cut.{CutValue}
+use Rattle.leveldb_version.proofs.Compactions.CutLemmas.{passes_files}
 use Rattle.leveldb_version.proofs.compaction.cut.OutputCut.passes.Goals.{then-stops, else-stops}
 use Rattle.leveldb_version.proofs.compaction.cut.OutputCut.passes.Goals as goal
 

@@ -1,9 +1,10 @@
 use Rattle.std.proofs.Common.{List, map, subst, ℕ, ◌+◌}
 use Rattle.std.specs.declared.cmp.Ordering.{Ordering}
-use Rattle.leveldb_version.specs.Summary.{files_of_level}
-use Rattle.leveldb_version.specs.Version.{new_files_of}
-use Rattle.leveldb_version.specs.Cut.{PassesFiles}
-use Rattle.leveldb_version.specs.VersionEdit.{NewFile, new_file_of}
+use Rattle.leveldb_files.specs.Levels.Summary.{files_of_level}
+use Rattle.leveldb_version.specs.Versions.Version.{new_files_of}
+use Rattle.leveldb_version.specs.Compactions.Cut.{PassesFiles}
+use Rattle.leveldb_files.specs.Edits.Edit.{NewFile}
+use Rattle.leveldb_version.specs.Edits.VersionEdit.{new_file_of}
 use Rattle.leveldb_version.proofs.compaction.cut.OutputCut.stops_before.Goals as goal
 
 pub returns : goal.returns

@@ -2,8 +2,8 @@ use Rattle.std.proofs.Common.{◌==◌, ◌∙◌, ◌++◌, Bool, ap, drop, map
 use Rattle.std.proofs.lemmas.List.{map-append, take-append-drop}
 use Rattle.std.proofs.lemmas.List.Sorted.{IsPartitionPoint-from_clause}
 use Rattle.leveldb_base.specs.declared.types.FileMetaData.{FileMetaData}
-use Rattle.leveldb_version.specs.VersionEdit.{new_file_of}
-use Rattle.leveldb_version.proofs.SearchLemmas.{parted_at, rest_is, zero_first}
+use Rattle.leveldb_version.specs.Edits.VersionEdit.{new_file_of}
+use Rattle.leveldb_version.proofs.Versions.SearchLemmas.{parted_at, rest_is, zero_first}
 use Rattle.leveldb_version.proofs.version.search.FilesLeft.new.Goals as goal
 
 pub invariant_of-result : goal.invariant_of-result

@@ -6,10 +6,11 @@ use Rattle.std.specs.Option.{option_copied, option_map}
 use Rattle.std.specs.Prelude.{◌<◌, All, Contains, IsTrue}
 use Rattle.leveldb_base.specs.CmpLaws.{total_order}
 use Rattle.leveldb_base.specs.declared.types.FileMetaData.{FileMetaData}
-use Rattle.leveldb_version.specs.Search.{FilesLeftValue, TakesNextFile, files_left}
-use Rattle.leveldb_version.specs.Version.{AreInVersionOrder}
-use Rattle.leveldb_version.specs.VersionEdit.{NewFile, new_file_of}
-use Rattle.leveldb_version.proofs.SearchLemmas.{AreLeft, in_order_back, in_order_front, last_passed, last_taken, left_all, empty, left_none, levels_are, taken_of_deeper, taken_of_newest}
+use Rattle.leveldb_version.specs.Versions.Search.{FilesLeftValue, TakesNextFile, files_left}
+use Rattle.leveldb_version.specs.Versions.Version.{AreInVersionOrder}
+use Rattle.leveldb_files.specs.Edits.Edit.{NewFile}
+use Rattle.leveldb_version.specs.Edits.VersionEdit.{new_file_of}
+use Rattle.leveldb_version.proofs.Versions.SearchLemmas.{AreLeft, in_order_back, in_order_front, last_passed, last_taken, left_all, empty, left_none, levels_are, taken_of_deeper, taken_of_newest}
 use Rattle.leveldb_version.proofs.version.search.FilesLeft.next.Goals as goal
 
 pub loop-file-init : goal.loop-file-init

@@ -5,10 +5,10 @@ use Rattle.std.specs.Option.{option_copied, option_map}
 use Rattle.std.specs.Prelude.{All}
 use Rattle.leveldb_base.specs.CmpLaws.{total_order}
 use Rattle.leveldb_base.specs.declared.types.FileMetaData.{FileMetaData}
-use Rattle.leveldb_version.specs.Search.{FilesLeftValue, TakesNextFile}
-use Rattle.leveldb_version.specs.VersionEdit.{new_file_of}
-use Rattle.leveldb_version.proofs.SearchLemmas.{AreLeft, first_deep, left_all, left_none, level_at, level_passed, level_taken, no_first, rest_is, some_copied}
-use Rattle.leveldb_version.proofs.VersionLemmas.{levels_rise}
+use Rattle.leveldb_version.specs.Versions.Search.{FilesLeftValue, TakesNextFile}
+use Rattle.leveldb_version.specs.Edits.VersionEdit.{new_file_of}
+use Rattle.leveldb_version.proofs.Versions.SearchLemmas.{AreLeft, first_deep, left_all, left_none, level_at, level_passed, level_taken, no_first, rest_is, some_copied}
+use Rattle.leveldb_version.proofs.Versions.VersionLemmas.{levels_rise}
 use Rattle.leveldb_version.proofs.version.search.FilesLeft.next_of_deeper.Goals as goal
 
 pub loop-first-init : goal.loop-first-init

@@ -1,7 +1,7 @@
 use Rattle.std.proofs.Common.{◌≡◌, ◌<◌, length, map}
 use Rattle.std.specs.Prelude.{All}
-use Rattle.leveldb_version.proofs.SearchLemmas.{AreLeft}
-use Rattle.leveldb_version.specs.VersionEdit.{new_file_of}
+use Rattle.leveldb_version.proofs.Versions.SearchLemmas.{AreLeft}
+use Rattle.leveldb_version.specs.Edits.VersionEdit.{new_file_of}
 use Rattle.leveldb_version.proofs.version.search.FilesLeft.next_of_deeper.Given as goal
 
 -- the files passed over don't have the key in their range

@@ -1,7 +1,7 @@
 use Rattle.std.proofs.Common.{◌+◌, ◌∙◌, ◌∷◌, ◌++◌, [], ap, refl}
-use Rattle.leveldb_version.specs.VersionEdit.{new_file_of}
+use Rattle.leveldb_version.specs.Edits.VersionEdit.{new_file_of}
 use Rattle.leveldb_version.specs.declared.version_set.files_in_order.FilesInOrder.{FilesInOrder}
-use Rattle.leveldb_version.proofs.FilesInOrderLemmas.{added_placed, one_added}
+use Rattle.leveldb_version.proofs.Edits.FilesInOrderLemmas.{added_placed, one_added}
 use Rattle.leveldb_version.proofs.version_set.files_in_order.FilesInOrder.add.Goals as goal
 
 pub returns-clause-files : goal.returns-clause-files

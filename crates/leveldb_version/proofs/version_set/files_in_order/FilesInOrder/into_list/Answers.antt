@@ -1,7 +1,7 @@
 use Rattle.std.proofs.Common.{◌≡◌, ◌∙◌, ap, map, rules}
 use Rattle.std.specs.Map.{values_of}
-use Rattle.leveldb_version.specs.VersionEdit.{new_file_of}
-use Rattle.leveldb_version.proofs.FilesInOrderLemmas.{values_mapped}
+use Rattle.leveldb_version.specs.Edits.VersionEdit.{new_file_of}
+use Rattle.leveldb_version.proofs.Edits.FilesInOrderLemmas.{values_mapped}
 use Rattle.leveldb_version.proofs.version_set.files_in_order.FilesInOrder.into_list.Goals as goal
 
 pub returns-clause-files : goal.returns-clause-files

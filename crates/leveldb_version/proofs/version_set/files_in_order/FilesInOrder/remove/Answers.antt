@@ -1,8 +1,8 @@
 use Rattle.std.proofs.Common.{◌≡◌, None, refl, rules, sym}
 use Rattle.std.specs.BTreeMap.{get}
-use Rattle.leveldb_version.specs.VersionEdit.{file_order}
+use Rattle.leveldb_files.specs.Edits.Edit.{file_order}
 use Rattle.leveldb_version.specs.declared.version_set.files_in_order.FilesInOrder.{FilesInOrder}
-use Rattle.leveldb_version.proofs.FilesInOrderLemmas.{none_removed, one_removed, removed_placed}
+use Rattle.leveldb_version.proofs.Edits.FilesInOrderLemmas.{none_removed, one_removed, removed_placed}
 use Rattle.leveldb_version.proofs.version_set.files_in_order.FilesInOrder.remove.Goals as goal
 
 pub returns-in-Some-clause-files : goal.returns-in-Some-clause-files

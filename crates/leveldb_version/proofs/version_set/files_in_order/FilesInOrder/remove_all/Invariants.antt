@@ -1,7 +1,7 @@
 use Rattle.std.proofs.Common.{◌≡◌, fold, map}
 use Rattle.std.specs.Map.Iter.{deref}
-use Rattle.leveldb_version.specs.FilesInOrder.{ArePlaced, ordered_files}
-use Rattle.leveldb_version.specs.FullEdit.{files_without}
+use Rattle.leveldb_version.specs.Edits.FilesInOrder.{ArePlaced, ordered_files}
+use Rattle.leveldb_version.specs.Edits.FullEdit.{files_without}
 use Rattle.leveldb_version.proofs.version_set.files_in_order.FilesInOrder.remove_all.Given as goal
 
 abbrev pub invariant-loop-file : goal.invariant-loop-file

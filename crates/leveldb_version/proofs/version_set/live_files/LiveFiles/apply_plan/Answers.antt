@@ -1,6 +1,6 @@
 use Rattle.std.proofs.Common.{refl}
 use Rattle.std.proofs.lemmas.Result.{err_from_is_err_and}
-use Rattle.leveldb_version.proofs.RecoveredLemmas.{recovered_anew, recovered_going_on, reopening_refused}
+use Rattle.leveldb_version.proofs.Sets.RecoveredLemmas.{recovered_anew, recovered_going_on, reopening_refused}
 use Rattle.leveldb_version.proofs.version_set.live_files.LiveFiles.apply_plan.Goals as goal
 
 pub returns-in_err-file-clause-recovers : goal.returns-in_err-file-clause-recovers

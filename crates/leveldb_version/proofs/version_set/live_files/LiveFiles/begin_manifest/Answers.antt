@@ -2,13 +2,14 @@ use Rattle.std.proofs.Common.{◌≡◌, ◌∙◌, ◌∷◌, List, [], ℕ, ap
 use Rattle.std.specs.Option.{unwrap_or}
 use Rattle.leveldb_mem.specs.Log.{log_block_size}
 use Rattle.leveldb_mem.specs.Log.Writer.{after_frame, new_writer}
-use Rattle.leveldb_version.specs.FullEdit.{full_after}
-use Rattle.leveldb_version.specs.LogEdit.{edit_record, new_manifest, new_records}
-use Rattle.leveldb_version.specs.NewManifest.{manifest_bytes}
-use Rattle.leveldb_version.specs.Paths.{manifest_path}
-use Rattle.leveldb_version.specs.VersionEdit.{Edit, edit_bytes, edit_of}
-use Rattle.leveldb_version.specs.VersionSetValue.{VersionSetValue}
-use Rattle.leveldb_version.proofs.LogEditLemmas.{begun_view, log_of, made_changes, ok_cause, state_of}
+use Rattle.leveldb_version.specs.Edits.FullEdit.{full_after}
+use Rattle.leveldb_version.specs.Sets.LogEdit.{edit_record, new_manifest, new_records}
+use Rattle.leveldb_version.specs.Sets.NewManifest.{manifest_bytes}
+use Rattle.leveldb_files.specs.Stores.Paths.{manifest_path}
+use Rattle.leveldb_files.specs.Edits.Edit.{Edit, edit_bytes}
+use Rattle.leveldb_version.specs.Edits.VersionEdit.{edit_of}
+use Rattle.leveldb_version.specs.Sets.VersionSetValue.{VersionSetValue}
+use Rattle.leveldb_version.proofs.Sets.LogEditLemmas.{begun_view, log_of, made_changes, ok_cause, state_of}
 use Rattle.leveldb_version.proofs.version_set.live_files.LiveFiles.begin_manifest.Goals as goal
 
 pub returns-clause-begins : goal.returns-clause-begins

@@ -1,9 +1,10 @@
 use Rattle.std.proofs.Common.{◌≡◌, ◌∙◌, false, Some, ⊎_elim, ap, inl, inr, refl, rules, sym}
 use Rattle.std.proofs.lemmas.Result.{err_from_is_err_and}
-use Rattle.leveldb_version.specs.LogEdit.{edit_record}
-use Rattle.leveldb_version.specs.VersionEdit.{edit_bytes, edit_of}
-use Rattle.leveldb_version.specs.VersionSetValue.{OpenManifest, VersionSetValue, manifest_state}
-use Rattle.leveldb_version.proofs.LogEditLemmas.{broken_view, has_bytes, is_made, is_so, same_view, state_of, used_one}
+use Rattle.leveldb_version.specs.Sets.LogEdit.{edit_record}
+use Rattle.leveldb_files.specs.Edits.Edit.{edit_bytes}
+use Rattle.leveldb_version.specs.Edits.VersionEdit.{edit_of}
+use Rattle.leveldb_version.specs.Sets.VersionSetValue.{OpenManifest, VersionSetValue, manifest_state}
+use Rattle.leveldb_version.proofs.Sets.LogEditLemmas.{broken_view, has_bytes, is_made, is_so, same_view, state_of, used_one}
 use Rattle.leveldb_version.proofs.version_set.live_files.LiveFiles.log.Goals as goal
 
 pub append_record-appended-requires-clause-some : goal.append_record-appended-requires-clause-some

@@ -2,8 +2,8 @@ use Rattle.std.proofs.Common.{◌≡◌, ◌∙◌, rules, subst, sym}
 use Rattle.std.specs.Prelude.{if◌then◌else◌, string_bytes}
 use Rattle.std.proofs.lemmas.Result.{err_from_is_err_and}
 use Rattle.leveldb_mem.specs.Log.{bad, clean}
-use Rattle.leveldb_version.specs.RecoverSteps.{IsManifestAt, IsManifestRead}
-use Rattle.leveldb_version.proofs.RecoverLemmas.{current_refused, manifest_read, named_unread, plan_made, plan_unread, plan_unusable, plan_used_up}
+use Rattle.leveldb_version.specs.Sets.RecoverSteps.{IsManifestAt, IsManifestRead}
+use Rattle.leveldb_version.proofs.Sets.RecoverLemmas.{current_refused, manifest_read, named_unread, plan_made, plan_unread, plan_unusable, plan_used_up}
 use Rattle.leveldb_version.proofs.version_set.live_files.LiveFiles.plan.Goals as goal
 
 pub returns-in_err-path-clause-cause : goal.returns-in_err-path-clause-cause

@@ -1,7 +1,7 @@
 use Rattle.std.proofs.Common.{ap}
 use Rattle.std.proofs.lemmas.Result.{err_from_is_err_and}
-use Rattle.leveldb_version.specs.VersionSetValue.{VersionSetValue, broken}
-use Rattle.leveldb_version.proofs.RecoveredLemmas.{set_read, set_unread}
+use Rattle.leveldb_version.specs.Sets.VersionSetValue.{VersionSetValue, broken}
+use Rattle.leveldb_version.proofs.Sets.RecoveredLemmas.{set_read, set_unread}
 use Rattle.leveldb_version.proofs.version_set.live_files.LiveFiles.read.Goals as goal
 
 pub returns-in_err-plan : goal.returns-in_err-plan

@@ -1,7 +1,7 @@
 use Rattle.std.proofs.Common.{ℕ, refl, subst}
 use Rattle.std.proofs.lemmas.Result.{err_from_is_err_and}
-use Rattle.leveldb_version.proofs.RecoveredLemmas.{nothing_recovered}
-use Rattle.leveldb_version.specs.Recover.{RecoverResult}
+use Rattle.leveldb_version.proofs.Sets.RecoveredLemmas.{nothing_recovered}
+use Rattle.leveldb_version.specs.Sets.Recover.{RecoverResult}
 use Rattle.leveldb_version.proofs.version_set.live_files.LiveFiles.recover.Goals as goal
 
 pub returns-in_err-plan : goal.returns-in_err-plan

@@ -1,5 +1,5 @@
 use Rattle.std.proofs.Common.{subst}
-use Rattle.leveldb_version.specs.CurrentVersion.{IsCurrent, VersionsValue}
+use Rattle.leveldb_version.specs.Sets.CurrentVersion.{IsCurrent, VersionsValue}
 use Rattle.leveldb_version.proofs.version_set.set.VersionSet.current.Goals as goal
 
 pub returns-clause-current : goal.returns-clause-current

@@ -1,12 +1,12 @@
 use Rattle.std.proofs.Common.{◌≡◌, ◌∙◌, Err, Ok, false, subst, sym, true}
 use Rattle.std.specs.Prelude.{◌≢◌}
 use Rattle.std.proofs.lemmas.Result.{err_from_is_err_and}
-use Rattle.leveldb_version.specs.CurrentVersion.{IsCurrent}
-use Rattle.leveldb_version.specs.LogEdit.{LogEditResult}
-use Rattle.leveldb_version.specs.VersionEdit.{edit_of}
-use Rattle.leveldb_version.specs.VersionSetValue.{broken}
-use Rattle.leveldb_version.proofs.CurrentVersionLemmas.{current_after, still_current}
-use Rattle.leveldb_version.proofs.LogEditLemmas.{files_logged, files_unlogged, logged_by, unlogged}
+use Rattle.leveldb_version.specs.Sets.CurrentVersion.{IsCurrent}
+use Rattle.leveldb_version.specs.Sets.LogEdit.{LogEditResult}
+use Rattle.leveldb_version.specs.Edits.VersionEdit.{edit_of}
+use Rattle.leveldb_version.specs.Sets.VersionSetValue.{broken}
+use Rattle.leveldb_version.proofs.Sets.CurrentVersionLemmas.{current_after, still_current}
+use Rattle.leveldb_version.proofs.Sets.LogEditLemmas.{files_logged, files_unlogged, logged_by, unlogged}
 use Rattle.leveldb_version.proofs.version_set.set.VersionSet.log_and_apply.Goals as goal
 
 pub returns-in_err-next-clause-log : goal.returns-in_err-next-clause-log

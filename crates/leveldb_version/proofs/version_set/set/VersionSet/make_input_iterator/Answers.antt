@@ -1,7 +1,7 @@
 use Rattle.std.proofs.Common.{◌≡◌, ◌∙◌, ap, subst}
 use Rattle.leveldb_base.specs.contracts.cmp.internal.InternalKeyCmpCmp.TheImpl.{ghosts as key_order}
-use Rattle.leveldb_version.specs.CurrentVersion.{VersionsValue}
-use Rattle.leveldb_version.specs.InputMerge.{MergesTablesOf}
+use Rattle.leveldb_version.specs.Sets.CurrentVersion.{VersionsValue}
+use Rattle.leveldb_version.specs.Compactions.InputMerge.{MergesTablesOf}
 use Rattle.leveldb_version.specs.contracts.version_iter.VersionIterWalkReadTables.TheImpl.{ghosts as tables_walk}
 use Rattle.leveldb_version.proofs.version_set.set.VersionSet.make_input_iterator.Goals as goal
 

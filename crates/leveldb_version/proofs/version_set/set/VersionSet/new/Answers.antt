@@ -1,6 +1,6 @@
 use Rattle.std.proofs.Common.{ap, sym, subst}
-use Rattle.leveldb_version.specs.CurrentVersion.{IsCurrent}
-use Rattle.leveldb_version.proofs.CurrentVersionLemmas.{none_current}
+use Rattle.leveldb_version.specs.Sets.CurrentVersion.{IsCurrent}
+use Rattle.leveldb_version.proofs.Sets.CurrentVersionLemmas.{none_current}
 use Rattle.leveldb_version.proofs.version_set.set.VersionSet.new.Goals as goal
 
 pub invariant_of-result : goal.invariant_of-result

@@ -1,6 +1,6 @@
 use Rattle.std.proofs.Common.{refl}
-use Rattle.leveldb_version.specs.VersionSetValue.{with_number_given}
-use Rattle.leveldb_version.proofs.CurrentVersionLemmas.{only_numbers, still_current, versions_after_err, versions_after_ok}
+use Rattle.leveldb_version.specs.Sets.VersionSetValue.{with_number_given}
+use Rattle.leveldb_version.proofs.Sets.CurrentVersionLemmas.{only_numbers, still_current, versions_after_err, versions_after_ok}
 use Rattle.leveldb_version.proofs.version_set.set.VersionSet.new_file_number.Goals as goal
 
 pub invariant_of-self : goal.invariant_of-self

@@ -1,6 +1,6 @@
 use Rattle.std.proofs.Common.{subst, sym}
-use Rattle.leveldb_version.specs.CurrentVersion.{IsCurrent}
-use Rattle.leveldb_version.proofs.CurrentVersionLemmas.{made_current}
+use Rattle.leveldb_version.specs.Sets.CurrentVersion.{IsCurrent}
+use Rattle.leveldb_version.proofs.Sets.CurrentVersionLemmas.{made_current}
 use Rattle.leveldb_version.proofs.version_set.set.VersionSet.of_files.Goals as goal
 
 pub invariant_of-result : goal.invariant_of-result

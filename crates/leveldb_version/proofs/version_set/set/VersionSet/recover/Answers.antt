@@ -1,11 +1,12 @@
 use Rattle.std.proofs.Common.{◌∙◌, ℕ, Err, Ok, ap, map, refl, subst, sym}
 use Rattle.std.proofs.lemmas.Result.{err_from_is_err_and}
-use Rattle.leveldb_version.specs.CurrentVersion.{IsCurrent}
-use Rattle.leveldb_version.specs.Recover.{RecoverResult}
-use Rattle.leveldb_version.specs.VersionEdit.{Edit, new_file_of}
-use Rattle.leveldb_version.specs.VersionSetValue.{VersionSetValue}
-use Rattle.leveldb_version.proofs.CurrentVersionLemmas.{made_current, still_current, with_version}
-use Rattle.leveldb_version.proofs.RecoveredLemmas.{nothing_recovered, planned_then_out_of_memory}
+use Rattle.leveldb_version.specs.Sets.CurrentVersion.{IsCurrent}
+use Rattle.leveldb_version.specs.Sets.Recover.{RecoverResult}
+use Rattle.leveldb_files.specs.Edits.Edit.{Edit}
+use Rattle.leveldb_version.specs.Edits.VersionEdit.{new_file_of}
+use Rattle.leveldb_version.specs.Sets.VersionSetValue.{VersionSetValue}
+use Rattle.leveldb_version.proofs.Sets.CurrentVersionLemmas.{made_current, still_current, with_version}
+use Rattle.leveldb_version.proofs.Sets.RecoveredLemmas.{nothing_recovered, planned_then_out_of_memory}
 use Rattle.leveldb_version.proofs.version_set.set.VersionSet.recover.Goals as goal
 
 pub returns-in_err-plan-clause-recovers : goal.returns-in_err-plan-clause-recovers

@@ -1,6 +1,6 @@
 use Rattle.std.proofs.Common.{ap}
-use Rattle.leveldb_version.specs.VersionSetValue.{VersionSetValue}
-use Rattle.leveldb_version.proofs.CurrentVersionLemmas.{still_current, with_version}
+use Rattle.leveldb_version.specs.Sets.VersionSetValue.{VersionSetValue}
+use Rattle.leveldb_version.proofs.Sets.CurrentVersionLemmas.{still_current, with_version}
 use Rattle.leveldb_version.proofs.version_set.set.VersionSet.reuse_file_number.Goals as goal
 
 pub invariant_of-self : goal.invariant_of-self

@@ -1,6 +1,6 @@
 use Rattle.std.proofs.Common.{ap}
-use Rattle.leveldb_version.specs.VersionSetValue.{VersionSetValue}
-use Rattle.leveldb_version.proofs.CurrentVersionLemmas.{still_current}
+use Rattle.leveldb_version.specs.Sets.VersionSetValue.{VersionSetValue}
+use Rattle.leveldb_version.proofs.Sets.CurrentVersionLemmas.{still_current}
 use Rattle.leveldb_version.proofs.version_set.set.VersionSet.set_last_seq.Goals as goal
 
 pub invariant_of-self : goal.invariant_of-self

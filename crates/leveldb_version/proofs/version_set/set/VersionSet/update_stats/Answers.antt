@@ -1,7 +1,7 @@
 use Rattle.std.proofs.Common.{Bool, ap, subst, sym}
-use Rattle.leveldb_version.specs.CurrentVersion.{IsCurrent}
-use Rattle.leveldb_version.specs.Version.{VersionValue, charged}
-use Rattle.leveldb_version.proofs.CurrentVersionLemmas.{charged_cmp, charged_current, with_version}
+use Rattle.leveldb_version.specs.Sets.CurrentVersion.{IsCurrent}
+use Rattle.leveldb_version.specs.Versions.Version.{VersionValue, charged}
+use Rattle.leveldb_version.proofs.Sets.CurrentVersionLemmas.{charged_cmp, charged_current, with_version}
 use Rattle.leveldb_version.proofs.version_set.set.VersionSet.update_stats.Goals as goal
 
 pub invariant_of-self : goal.invariant_of-self

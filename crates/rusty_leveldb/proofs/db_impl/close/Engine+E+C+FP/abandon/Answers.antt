@@ -2,13 +2,13 @@
 use Rattle.std.proofs.Common.{◌≡◌, ◌∙◌, refl, sym, ap, arith, Ok}
 use Rattle.rusty_leveldb.specs.declared.db_impl.engine.Mode.{Mode}
 use Rattle.rusty_leveldb.specs.declared.db_impl.engine.Mode.TheVariants.{Open, Broken, Closed}
-use Rattle.rusty_leveldb.specs.EngineValue.{mode_of}
-use Rattle.rusty_leveldb.specs.State as machine
-use Rattle.rusty_leveldb.specs.State.{closed}
-use Rattle.rusty_leveldb.proofs.ClosingLemmas.{abandon_answers, abandoned_closed}
-use Rattle.rusty_leveldb.proofs.Others.{spares_still}
-use Rattle.rusty_leveldb.proofs.RestLemmas.{abandon_lock, abandon_others}
-use Rattle.rusty_leveldb.proofs.RowLemmas.{abandon_row}
+use Rattle.rusty_leveldb.specs.Engines.EngineValue.{mode_of}
+use Rattle.rusty_leveldb.specs.Machines.State as machine
+use Rattle.rusty_leveldb.specs.Machines.State.{closed}
+use Rattle.rusty_leveldb.proofs.Engines.ClosingLemmas.{abandon_answers, abandoned_closed}
+use Rattle.rusty_leveldb.proofs.Engines.Others.{spares_still}
+use Rattle.rusty_leveldb.proofs.Engines.RestLemmas.{abandon_lock, abandon_others}
+use Rattle.rusty_leveldb.proofs.Engines.RowLemmas.{abandon_row}
 use Rattle.rusty_leveldb.proofs.db_impl.close.Engine+E+C+FP.abandon.Goals as goal
 
 -- only a closed engine has this mode

@@ -1,8 +1,8 @@
 -- A sync that failed, a lock that wasn't given back, or closed.
 use Rattle.std.proofs.Common.{◌≡◌, ◌∙◌, ap}
-use Rattle.rusty_leveldb.specs.EngineValue.{mode_of}
-use Rattle.rusty_leveldb.specs.State.{open_mode}
-use Rattle.rusty_leveldb.proofs.CallsLemmas.{close_locked_serves, close_unsynced_serves, closed_serves}
+use Rattle.rusty_leveldb.specs.Engines.EngineValue.{mode_of}
+use Rattle.rusty_leveldb.specs.Machines.State.{open_mode}
+use Rattle.rusty_leveldb.proofs.Engines.CallsLemmas.{close_locked_serves, close_unsynced_serves, closed_serves}
 use Rattle.rusty_leveldb.proofs.db_impl.close.Engine+E+C+FP.close.Goals as goal
 
 pub returns-in-Err : goal.returns-in-Err

@@ -2,8 +2,8 @@
 use Rattle.std.proofs.Common.{ap, inl, inr}
 use Rattle.std.proofs.lemmas.Result.{err_from_is_err_and}
 use Rattle.leveldb_env.specs.contracts.compressor.CompressorListCompressors.TheImpl.{ghosts as compressors}
-use Rattle.leveldb_version.specs.Format.{format_of}
-use Rattle.rusty_leveldb.proofs.CompactCallLemmas.{compact_serves, halted_compacts, long_compacts}
+use Rattle.leveldb_files.specs.Stores.Format.{format_of}
+use Rattle.rusty_leveldb.proofs.Compactions.CompactCallLemmas.{compact_serves, halted_compacts, long_compacts}
 use Rattle.rusty_leveldb.proofs.db_impl.compact.Engine+E+C+FP.compact_range.Goals as goal
 
 pub returns-in_err-check_open : goal.returns-in_err-check_open

@@ -1,7 +1,7 @@
 -- The store is charged and compacted by the engine's options, in the order of the store.
 use Rattle.std.proofs.Common.{refl}
-use Rattle.leveldb_store.proofs.KeptEntriesLemmas.{memory_of_charged}
-use Rattle.rusty_leveldb.proofs.ChargesLemmas.{charged_range}
+use Rattle.leveldb_store.proofs.Keeping.KeptEntriesLemmas.{memory_of_charged}
+use Rattle.rusty_leveldb.proofs.Walks.ChargesLemmas.{charged_range}
 use Rattle.rusty_leveldb.proofs.db_impl.compact.Engine+E+C+FP.compact_store.Goals as goal
 
 pub returns-clause-compacts : goal.returns-clause-compacts

@@ -2,8 +2,8 @@
 use Rattle.std.proofs.Common.{inl, inr, refl}
 use Rattle.std.specs.Option.{option_map}
 use Rattle.std.proofs.lemmas.Result.{err_from_is_err_and}
-use Rattle.rusty_leveldb.specs.Serves.{snapshot_of}
-use Rattle.rusty_leveldb.proofs.IteratingLemmas.{iterates_by, made_reference, unmade}
+use Rattle.rusty_leveldb.specs.Engines.Serves.{snapshot_of}
+use Rattle.rusty_leveldb.proofs.Walks.IteratingLemmas.{iterates_by, made_reference, unmade}
 use Rattle.rusty_leveldb.proofs.db_impl.iterate.Engine+E+C+FP.iter_at.Goals as goal
 
 pub returns-in_err-check_not_closed-clause-iterates : goal.returns-in_err-check_not_closed-clause-iterates

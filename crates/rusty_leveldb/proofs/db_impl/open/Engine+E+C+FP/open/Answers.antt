@@ -4,14 +4,14 @@ use Rattle.std.proofs.Common.{◌≡◌, ◌∙◌, ⊎_elim, inl, inr, false, t
 use Rattle.std.proofs.lemmas.Result.{err_from_is_err_and}
 use Rattle.leveldb_env.proofs.EnvLemmas.{Run-call}
 use Rattle.leveldb_env.specs.contracts.compressor.CompressorListCompressors.TheImpl.{ghosts as compressors}
-use Rattle.leveldb_version.specs.Format.{format_of}
-use Rattle.rusty_leveldb.specs.Engine.{opening_of}
-use Rattle.rusty_leveldb.proofs.AskedLemmas.{within_if, within_is}
-use Rattle.rusty_leveldb.proofs.DoneOpeningLemmas.{done_opens, none_open}
-use Rattle.rusty_leveldb.proofs.LateOpeningLemmas.{late_opens}
-use Rattle.rusty_leveldb.proofs.LeftOpeningLemmas.{broken_bytes, broken_cause, left_broken, left_unopened, unopened_cause}
-use Rattle.rusty_leveldb.proofs.OpenCallLemmas.{early_opens, lock_excused, near_folder, near_lock, near_still, why_of}
-use Rattle.rusty_leveldb.proofs.UnderLockLemmas.{lock_taken}
+use Rattle.leveldb_files.specs.Stores.Format.{format_of}
+use Rattle.rusty_leveldb.specs.Engines.Engine.{opening_of}
+use Rattle.rusty_leveldb.proofs.Openings.AskedLemmas.{within_if, within_is}
+use Rattle.rusty_leveldb.proofs.Openings.DoneOpeningLemmas.{done_opens, none_open}
+use Rattle.rusty_leveldb.proofs.Openings.LateOpeningLemmas.{late_opens}
+use Rattle.rusty_leveldb.proofs.Openings.LeftOpeningLemmas.{broken_bytes, broken_cause, left_broken, left_unopened, unopened_cause}
+use Rattle.rusty_leveldb.proofs.Openings.OpenCallLemmas.{early_opens, lock_excused, near_folder, near_lock, near_still, why_of}
+use Rattle.rusty_leveldb.proofs.Openings.UnderLockLemmas.{lock_taken}
 use Rattle.rusty_leveldb.proofs.db_impl.open.Engine+E+C+FP.open.Goals as goal
 
 -- a compressor that isn't set

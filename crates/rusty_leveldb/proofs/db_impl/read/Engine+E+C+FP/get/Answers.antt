@@ -1,8 +1,8 @@
 -- A closed store, a key that is too long, or what the store's look-up returned.
 use Rattle.std.proofs.Common.{◌∙◌, None, ap, inr, sym}
 use Rattle.std.proofs.lemmas.Result.{err_from_is_err_and}
-use Rattle.rusty_leveldb.proofs.CallsLemmas.{get_closed_serves, get_misfit_serves, get_serves_in}
-use Rattle.rusty_leveldb.proofs.ReadingLemmas.{still_unbroken}
+use Rattle.rusty_leveldb.proofs.Engines.CallsLemmas.{get_closed_serves, get_misfit_serves, get_serves_in}
+use Rattle.rusty_leveldb.proofs.Engines.ReadingLemmas.{still_unbroken}
 use Rattle.rusty_leveldb.proofs.db_impl.read.Engine+E+C+FP.get.Goals as goal
 
 pub returns-in_err-check_not_closed : goal.returns-in_err-check_not_closed

@@ -3,10 +3,10 @@
 use Rattle.std.specs.Prelude.{Contains}
 use Rattle.std.proofs.Common.{◌∙◌, Some, ap, inl, inr, subst, sym}
 use Rattle.std.proofs.lemmas.Result.{err_from_is_err_and}
-use Rattle.rusty_leveldb.specs.Engine.{held_in}
-use Rattle.rusty_leveldb.specs.Serves.{snapshot_of}
-use Rattle.rusty_leveldb.proofs.CallsLemmas.{get_closed_serves, get_misfit_serves, get_serves_in}
-use Rattle.rusty_leveldb.proofs.ReadingLemmas.{still_unbroken}
+use Rattle.rusty_leveldb.specs.Engines.Engine.{held_in}
+use Rattle.rusty_leveldb.specs.Engines.Serves.{snapshot_of}
+use Rattle.rusty_leveldb.proofs.Engines.CallsLemmas.{get_closed_serves, get_misfit_serves, get_serves_in}
+use Rattle.rusty_leveldb.proofs.Engines.ReadingLemmas.{still_unbroken}
 use Rattle.rusty_leveldb.proofs.db_impl.read.Engine+E+C+FP.get_at.Goals as goal
 
 pub returns-in_err-check_not_closed : goal.returns-in_err-check_not_closed

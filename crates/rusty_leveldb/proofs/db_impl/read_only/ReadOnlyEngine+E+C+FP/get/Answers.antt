@@ -1,6 +1,6 @@
 -- A key that is too long, or what the store's look-up returned.
 use Rattle.std.proofs.lemmas.Result.{err_from_is_err_and}
-use Rattle.rusty_leveldb.proofs.ReadAloneLemmas.{gets_in, gets_misfit}
+use Rattle.rusty_leveldb.proofs.Openings.ReadAloneLemmas.{gets_in, gets_misfit}
 use Rattle.rusty_leveldb.proofs.db_impl.read_only.ReadOnlyEngine+E+C+FP.get.Goals as goal
 
 pub returns-in_err-check_key_size : goal.returns-in_err-check_key_size

@@ -1,7 +1,7 @@
 -- An iterator over the store's view, or no memory for it.
 use Rattle.std.proofs.Common.{refl}
-use Rattle.rusty_leveldb.proofs.IteratingLemmas.{made_reference}
-use Rattle.rusty_leveldb.proofs.ReaderIteratingLemmas.{reader_iterates}
+use Rattle.rusty_leveldb.proofs.Walks.IteratingLemmas.{made_reference}
+use Rattle.rusty_leveldb.proofs.Walks.ReaderIteratingLemmas.{reader_iterates}
 use Rattle.rusty_leveldb.proofs.db_impl.read_only.ReadOnlyEngine+E+C+FP.new_iter.Goals as goal
 
 pub returns-clause-reference : goal.returns-clause-reference

@@ -3,10 +3,10 @@ use Rattle.std.specs.Prelude.{IsTrue, is_some}
 use Rattle.std.proofs.Common.{◌≡◌, ⊎_elim, inl, inr, false, true, refl, Option, None, Some}
 use Rattle.std.proofs.lemmas.Result.{err_from_is_err_and}
 use Rattle.leveldb_env.specs.contracts.compressor.CompressorListCompressors.TheImpl.{ghosts as compressors}
-use Rattle.leveldb_version.specs.Format.{format_of}
-use Rattle.rusty_leveldb.specs.Engine.{opening_of}
-use Rattle.rusty_leveldb.proofs.AskedLemmas.{within_if, within_is}
-use Rattle.rusty_leveldb.proofs.ReaderOpeningLemmas.{alone_early, alone_fails, alone_opens}
+use Rattle.leveldb_files.specs.Stores.Format.{format_of}
+use Rattle.rusty_leveldb.specs.Engines.Engine.{opening_of}
+use Rattle.rusty_leveldb.proofs.Openings.AskedLemmas.{within_if, within_is}
+use Rattle.rusty_leveldb.proofs.Openings.ReaderOpeningLemmas.{alone_early, alone_fails, alone_opens}
 use Rattle.rusty_leveldb.proofs.db_impl.read_only.ReadOnlyEngine+E+C+FP.open.Goals as goal
 
 -- a compressor that isn't set

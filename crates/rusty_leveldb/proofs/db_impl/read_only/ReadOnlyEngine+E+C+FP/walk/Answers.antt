@@ -1,7 +1,7 @@
 -- No memory for the steps, or the store's walk.
 use Rattle.std.proofs.Common.{[], sym, ◌∙◌, ap, append-nil, ◌++◌}
 use Rattle.std.proofs.lemmas.Result.{err_from_is_err_and}
-use Rattle.rusty_leveldb.proofs.ReadAloneLemmas.{walks_in, walks_starved}
+use Rattle.rusty_leveldb.proofs.Openings.ReadAloneLemmas.{walks_in, walks_starved}
 use Rattle.rusty_leveldb.proofs.db_impl.read_only.ReadOnlyEngine+E+C+FP.walk.Goals as goal
 
 pub returns-in_err-reserve : goal.returns-in_err-reserve

@@ -1,7 +1,7 @@
 -- A closed store, no memory or no number, or the snapshot that was given out.
 use Rattle.std.proofs.Common.{◌∙◌, ap, sym}
 use Rattle.std.proofs.lemmas.Result.{err_from_is_err_and}
-use Rattle.rusty_leveldb.proofs.SnapshotLemmas.{closed_gives, gives_none, gives_serves}
+use Rattle.rusty_leveldb.proofs.Engines.SnapshotLemmas.{closed_gives, gives_none, gives_serves}
 use Rattle.rusty_leveldb.proofs.db_impl.snapshots.Engine+E+C+FP.get_snapshot.Goals as goal
 
 pub returns-in_err-check_not_closed : goal.returns-in_err-check_not_closed

@@ -1,6 +1,6 @@
 -- A closed store, or a snapshot that is never held.
 use Rattle.std.proofs.Common.{rules}
-use Rattle.rusty_leveldb.proofs.UnknownLemmas.{unknown_closed, unknown_refused, unknown_unheld}
+use Rattle.rusty_leveldb.proofs.Engines.UnknownLemmas.{unknown_closed, unknown_refused, unknown_unheld}
 use Rattle.rusty_leveldb.proofs.db_impl.snapshots.Engine+E+C+FP.refuse_unknown.Goals as goal
 
 pub returns-in-Err : goal.returns-in-Err

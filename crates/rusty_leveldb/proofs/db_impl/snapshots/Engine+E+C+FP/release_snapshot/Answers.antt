@@ -2,9 +2,9 @@
 use Rattle.std.specs.Prelude.{Contains}
 use Rattle.std.proofs.Common.{◌∙◌, ap, subst, sym}
 use Rattle.std.proofs.lemmas.Result.{err_from_is_err_and}
-use Rattle.rusty_leveldb.specs.Engine.{held_in}
-use Rattle.rusty_leveldb.specs.Serves.{snapshot_of}
-use Rattle.rusty_leveldb.proofs.SnapshotLemmas.{closed_releases, is_released, releases_none, releases_serves}
+use Rattle.rusty_leveldb.specs.Engines.Engine.{held_in}
+use Rattle.rusty_leveldb.specs.Engines.Serves.{snapshot_of}
+use Rattle.rusty_leveldb.proofs.Engines.SnapshotLemmas.{closed_releases, is_released, releases_none, releases_serves}
 use Rattle.rusty_leveldb.proofs.db_impl.snapshots.Engine+E+C+FP.release_snapshot.Goals as goal
 
 pub returns-in_err-check_not_closed : goal.returns-in_err-check_not_closed

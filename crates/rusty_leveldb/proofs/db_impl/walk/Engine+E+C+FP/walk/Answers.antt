@@ -2,9 +2,9 @@
 use Rattle.std.proofs.Common.{[], sym, ◌∙◌, ap, append-nil, subst, ◌++◌}
 use Rattle.std.specs.Option.{option_map}
 use Rattle.std.proofs.lemmas.Result.{err_from_is_err_and}
-use Rattle.rusty_leveldb.specs.Engine.{ReadsAt}
-use Rattle.rusty_leveldb.specs.Serves.{snapshot_of}
-use Rattle.rusty_leveldb.proofs.WalkCallLemmas.{walk_closed_serves, walk_serves_in, walk_starved_serves, walk_unheld_serves}
+use Rattle.rusty_leveldb.specs.Engines.Engine.{ReadsAt}
+use Rattle.rusty_leveldb.specs.Engines.Serves.{snapshot_of}
+use Rattle.rusty_leveldb.proofs.Walks.WalkCallLemmas.{walk_closed_serves, walk_serves_in, walk_starved_serves, walk_unheld_serves}
 use Rattle.rusty_leveldb.proofs.db_impl.walk.Engine+E+C+FP.walk.Goals as goal
 
 pub returns-in_err-check_not_closed : goal.returns-in_err-check_not_closed

@@ -1,10 +1,10 @@
 -- Refused by the mode, or what the sync returned.
 use Rattle.std.proofs.Common.{◌≡◌, ◌∙◌, ap}
 use Rattle.std.proofs.lemmas.Result.{err_from_is_err_and}
-use Rattle.rusty_leveldb.specs.EngineValue.{mode_of}
-use Rattle.rusty_leveldb.specs.State.{open_mode}
-use Rattle.rusty_leveldb.proofs.CallsLemmas.{flush_serves, halted_flushes}
-use Rattle.rusty_leveldb.proofs.EngineLemmas.{follows_unbroken}
+use Rattle.rusty_leveldb.specs.Engines.EngineValue.{mode_of}
+use Rattle.rusty_leveldb.specs.Machines.State.{open_mode}
+use Rattle.rusty_leveldb.proofs.Engines.CallsLemmas.{flush_serves, halted_flushes}
+use Rattle.rusty_leveldb.proofs.Engines.EngineLemmas.{follows_unbroken}
 use Rattle.rusty_leveldb.proofs.db_impl.write.Engine+E+C+FP.flush.Goals as goal
 
 pub returns-in_err-check_open : goal.returns-in_err-check_open

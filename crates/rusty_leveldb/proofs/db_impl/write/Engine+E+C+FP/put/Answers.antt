@@ -5,10 +5,10 @@ use Rattle.leveldb_mem.specs.WriteBatch.{item_of}
 use Rattle.leveldb_base.specs.contracts.cmp.internal.InternalKeyCmpCmp.TheImpl.{ghosts as key_order}
 use Rattle.leveldb_env.specs.contracts.compressor.CompressorListCompressors.TheImpl.{ghosts as compressors}
 use Rattle.leveldb_env.specs.contracts.filter.internal.InternalFilterPolicyFilterPolicy.TheImpl.{ghosts as key_policy}
-use Rattle.leveldb_store.specs.BuildTable.{choices_of}
-use Rattle.rusty_leveldb.specs.Calls.{EngineWrites}
-use Rattle.rusty_leveldb.proofs.WriteCallLemmas.{one_change, unmade, unmade_serves}
-use Rattle.rusty_leveldb.proofs.CallsLemmas.{halted_writes}
+use Rattle.leveldb_store.specs.Tables.BuildTable.{choices_of}
+use Rattle.rusty_leveldb.specs.Engines.Calls.{EngineWrites}
+use Rattle.rusty_leveldb.proofs.Engines.WriteCallLemmas.{one_change, unmade, unmade_serves}
+use Rattle.rusty_leveldb.proofs.Engines.CallsLemmas.{halted_writes}
 use Rattle.rusty_leveldb.proofs.db_impl.write.Engine+E+C+FP.put.Goals as goal
 
 pub returns-in_err-check_open : goal.returns-in_err-check_open

@@ -4,13 +4,13 @@ use Rattle.std.proofs.lemmas.Result.{err_from_is_err_and}
 use Rattle.leveldb_base.specs.contracts.cmp.internal.InternalKeyCmpCmp.TheImpl.{ghosts as key_order}
 use Rattle.leveldb_env.specs.contracts.compressor.CompressorListCompressors.TheImpl.{ghosts as compressors}
 use Rattle.leveldb_env.specs.contracts.filter.internal.InternalFilterPolicyFilterPolicy.TheImpl.{ghosts as key_policy}
-use Rattle.leveldb_store.specs.BuildTable.{choices_of}
-use Rattle.leveldb_version.specs.Format.{format_of}
-use Rattle.rusty_leveldb.proofs.Batching.{not_too_long}
-use Rattle.rusty_leveldb.proofs.WriteCallLemmas.{batch_serves, room_fails_serves}
-use Rattle.rusty_leveldb.proofs.EngineLemmas.{follows_unbroken}
-use Rattle.rusty_leveldb.specs.Room.{EngineMakesRoom}
-use Rattle.rusty_leveldb.proofs.CallsLemmas.{halted_writes}
+use Rattle.leveldb_store.specs.Tables.BuildTable.{choices_of}
+use Rattle.leveldb_files.specs.Stores.Format.{format_of}
+use Rattle.rusty_leveldb.proofs.Engines.Batching.{not_too_long}
+use Rattle.rusty_leveldb.proofs.Engines.WriteCallLemmas.{batch_serves, room_fails_serves}
+use Rattle.rusty_leveldb.proofs.Engines.EngineLemmas.{follows_unbroken}
+use Rattle.rusty_leveldb.specs.Engines.Room.{EngineMakesRoom}
+use Rattle.rusty_leveldb.proofs.Engines.CallsLemmas.{halted_writes}
 use Rattle.rusty_leveldb.proofs.db_impl.write.Engine+E+C+FP.write.Goals as goal
 
 pub returns-in_err-check_open : goal.returns-in_err-check_open

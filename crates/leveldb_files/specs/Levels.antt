@@ -1,0 +1,4 @@
+-- Files and tables by levels: ranges of keys, and the order of a look-up.
+pub mod Summary
+pub mod Levels
+pub mod Overlap

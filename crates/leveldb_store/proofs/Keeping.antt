@@ -1,0 +1,20 @@
+-- An open store, and what each call keeps of it and of its files.
+pub mod KeptBytesLemmas
+pub mod RemoveLemmas
+pub mod GivenTablesLemmas
+pub mod OpenTablesLemmas
+pub mod LevelForLemmas
+pub mod CurrentVersionLemmas
+pub mod LevelsApartLemmas
+pub mod LevelsReadLemmas
+pub mod TableKeepsLemmas
+pub mod SoundLemmas
+pub mod WrittenFromLemmas
+pub mod DamageLemmas
+pub mod KeptFilesLemmas
+pub mod GivenNumbersLemmas
+pub mod HistoryLemmas
+pub mod SoundWriteLemmas
+pub mod NoNewEntriesLemmas
+pub mod KeptEntriesLemmas
+pub mod LoggedEditsLemmas

@@ -1,0 +1,12 @@
+-- Batches that are written, and room in the memtable.
+pub mod WriteLemmas
+pub mod SwitchLemmas
+mod BatchShownLemmas
+pub mod Level0TableLemmas
+pub mod RoomLemmas
+pub mod SyncBatchLemmas
+pub mod LogBatchLemmas
+mod BatchHistoryLemmas
+pub mod WriteBatchLemmas
+pub mod TableEntriesLemmas
+pub mod AddedTableLemmas

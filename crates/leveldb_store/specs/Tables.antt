@@ -1,0 +1,4 @@
+-- Tables that are built and written.
+pub mod BuildTable
+pub mod TableFile
+pub mod Outputs

@@ -1,0 +1,6 @@
+-- Batches that are written, and room in the memtable.
+pub mod Write
+pub mod Switch
+pub mod WriteBatch
+pub mod Room
+pub mod RoomSteps

@@ -1,6 +1,0 @@
-use Rattle.leveldb_version.proofs.LevelsLemmas.{adding_keeps_order}
-use Rattle.leveldb_version.proofs.laws.levels.added_tables_keep_the_order.Goals as goal
-
-pub returns : goal.returns
-returns c = λ cmp total tables table order bounded can.
-    adding_keeps_order cmp total tables table order bounded can

@@ -1,5 +1,0 @@
-use Rattle.leveldb_version.proofs.VersionSetLemmas.{live_is_added_last}
-use Rattle.leveldb_version.proofs.laws.live_files_were_added_last.Goals as goal
-
-pub returns : goal.returns
-returns c = live_is_added_last

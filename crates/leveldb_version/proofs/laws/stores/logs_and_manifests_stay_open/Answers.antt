@@ -1,9 +1,0 @@
-use Rattle.leveldb_version.proofs.WritableLemmas.{append_stays_writable, edit_stays_open, sync_stays_writable}
-use Rattle.leveldb_version.proofs.laws.stores.logs_and_manifests_stay_open.Goals as goal
-
-pub returns : goal.returns
-returns g c = record {
-  batch = λ store. append_stays_writable store g.F.StoreFormat.cmp g.F.StoreFormat.is_table;
-  sync = λ store. sync_stays_writable store g.F.StoreFormat.cmp g.F.StoreFormat.is_table;
-  edit = edit_stays_open;
-}

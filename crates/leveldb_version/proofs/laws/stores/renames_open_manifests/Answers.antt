@@ -1,9 +1,0 @@
-use Rattle.leveldb_version.proofs.FirstCurrentLemmas.{first_current_kept}
-use Rattle.leveldb_version.proofs.RenameOpensLemmas.{rename_opens}
-use Rattle.leveldb_version.proofs.laws.stores.renames_open_manifests.Goals as goal
-
-pub returns : goal.returns
-returns g c = record {
-  opened = λ store. rename_opens store g.F.StoreFormat.cmp g.F.StoreFormat.is_table;
-  first = λ store. first_current_kept store g.F.StoreFormat.cmp g.F.StoreFormat.is_table;
-}

@@ -1,0 +1,11 @@
+-- Iterators, their moves, and the samples of keys that they take.
+pub mod WalkLemmas
+mod WalkingLemmas
+pub mod ChargesLemmas
+pub mod ReadSamplesLemmas
+pub mod WalkCallLemmas
+pub mod IteratorLemmas
+pub mod IteratorLawsLemmas
+pub mod IteratingLemmas
+pub mod ReaderIteratingLemmas
+pub mod ScanLemmas

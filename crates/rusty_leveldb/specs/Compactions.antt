@@ -1,0 +1,3 @@
+-- What a compaction leaves of an engine.
+pub mod Compact
+pub mod CompactionLaws

@@ -1,0 +1,9 @@
+-- An engine beside the machine: what it has in memory, and what each call does.
+pub mod EngineValue
+pub mod Boxes
+pub mod Frame
+pub mod Serves
+pub mod Engine
+pub mod Rows
+pub mod Room
+pub mod Calls

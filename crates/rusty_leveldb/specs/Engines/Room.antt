@@ -1,0 +1,100 @@
+-- What room in an engine's memtable leaves: a memtable that is full becomes a table, and then the
+-- compaction is done for which the store asks.
+use Rattle.std.specs.Prelude.{◌≡◌, ◌++◌, ℕ, List, [], None, Result, Ok, Err, OnErr, OnOk, is_some}
+use Rattle.std.specs.declared.cmp.Ordering.{Ordering}
+use Rattle.leveldb_base.specs.History.{Entry}
+use Rattle.leveldb_base.specs.declared.cmp.Cmp.{Ghosts as CmpGhosts}
+use Rattle.leveldb_base.specs.declared.cmp.internal.InternalKeyCmp.{InternalKeyCmp}
+use Rattle.leveldb_base.specs.declared.error.Status.{Status}
+use Rattle.leveldb_env.specs.declared.env.Env.{Ghosts}
+use Rattle.leveldb_env.specs.declared.filter.FilterPolicy.{Ghosts as FilterGhosts}
+use Rattle.leveldb_env.specs.Options.{Boxed, OptionsOf}
+use Rattle.leveldb_iter.specs.Snapshot.{IsSmallestHeld}
+use Rattle.leveldb_files.specs.Stores.Format.{Format}
+use Rattle.leveldb_files.specs.Stores.Store.{SameEntries}
+use Rattle.leveldb_version.specs.Tables.TableCache.{TableOptions}
+use Rattle.leveldb_version.specs.Sets.VersionSetValue.{VersionSetValue}
+use Rattle.leveldb_version.specs.declared.table_cache.TableCache.{TableCache}
+use Rattle.leveldb_store.specs.Tables.BuildTable.{TableChoices}
+use Rattle.leveldb_store.specs.Compactions.Compact.{FailsToCompactRange, KeepsCompacted}
+use Rattle.leveldb_store.specs.Keeping.KeptEntries.{CompactsOnceAtMost, KeepsEntries}
+use Rattle.leveldb_store.specs.Keeping.LoggedEdits.{LogsByScore, LogsTableEdits}
+use Rattle.leveldb_store.specs.Keeping.OpenStore.{OpenStoreValue}
+use Rattle.leveldb_store.specs.Reading.Read.{in_memory}
+use Rattle.leveldb_store.specs.Writing.Room.{IsFull}
+use Rattle.rusty_leveldb.specs.Engines.Boxes.{EngineOf, InternalOrder}
+use Rattle.rusty_leveldb.specs.Compactions.Compact.{ChangesStore}
+use Rattle.rusty_leveldb.specs.Engines.Engine.{formats_of, options_in, tables_by}
+use Rattle.rusty_leveldb.specs.Engines.EngineValue.{FollowsStore}
+
+-- What was logged: tables of memtables, which take no file away, and then at most one edit of a
+-- compaction. Where the score of a level asks for a compaction in the files that those leave, there
+-- is one, which takes a file from this level and adds none to it.
+pub record LogsRoom (cmp : List ℕ → List ℕ → Ordering) (old new : VersionSetValue) : Type 0 where
+  pub tables_made : VersionSetValue
+  pub tables : LogsTableEdits 2 old tables_made
+  pub by_score : LogsByScore cmp tables_made new
+
+-- the entries that a write of this batch adds, by what it returns
+abbrev pub entries_added : Result (Unit {0}) Status → List Entry → List Entry
+entries_added (Ok nothing) batch = batch
+entries_added (Err status) batch = []
+
+-- the store with this last number
+abbrev pub with_last : {C : Type 0} → ℕ → OpenStoreValue C → OpenStoreValue C
+with_last n value = record value { set = record value.set { last_sequence = n } }
+
+-- Where entries are after a write, whatever the files are: each is in memory still, or in a table
+-- that was added, and then one compaction may have taken that table. These entries, of a batch, are
+-- added to memory.
+pub record KeepsOrCompacts {E F C : Type 0} (env : Ghosts E F) (format : Format)
+    (batch : List Entry) (old : OpenStoreValue C) (from : E) (new : OpenStoreValue C) (to : E)
+    : Type 0 where
+  -- the store and its environment once tables were made of what was in memory, and nothing was
+  -- compacted yet
+  pub tables_made : OpenStoreValue C
+  pub at : E
+  pub path : tables_made.set.store ≡ old.set.store
+  pub tables : KeepsEntries env format old from tables_made at
+  -- since then each live table stays as it is but those that one compaction took
+  pub compacts : CompactsOnceAtMost format.order env.models_disk tables_made (env.observed at)
+      (with_last tables_made.set.last_sequence new) (env.observed to)
+  -- and what is in memory stays there, with the batch, and nothing else is
+  pub memory : SameEntries (in_memory tables_made ++ batch) (in_memory new)
+
+-- Room is made in the memtable of a store that isn't broken, and where it was full the compaction
+-- is done for which the store asks then, down to the smallest number at which it is read.
+pub record StoreMakesRoom {E F C FP D P : Type 0} (order : CmpGhosts (InternalKeyCmp C))
+    (env : Ghosts E F) (by : TableOptions C FP) (old : OpenStoreValue C) (from : E)
+    (tables : TableCache E C FP F) {keys : CmpGhosts D} {filters : FilterGhosts P}
+    (choices : TableChoices keys filters) (limit smallest : ℕ) (result : Result (Unit {0}) Status)
+    (new : OpenStoreValue C) (to : E) (now : TableCache E C FP F) : Type 0 where
+  -- It fails for what a compaction of a range fails for: no tables are made of what is in memory,
+  -- or tables aren't merged.
+  pub keeps : KeepsCompacted order env by old from tables smallest
+      (FailsToCompactRange order env by old from tables choices) result new to now
+  -- where it isn't full, nothing is done
+  pub not_full : (IsFull limit old.mem → ⊥) → (new ≡ old) × (to ≡ from) × OnErr result ⊥
+  -- and one that was full is empty then, no place is taken in it, and there is no immutable one
+  pub empties : OnOk result (IsFull limit old.mem
+      → (new.mem.entries ≡ []) × (new.mem.places ≡ 0) × (new.imm ≡ None))
+  pub logs : OnOk result (IsFull limit old.mem → LogsRoom by.format.order old.set new.set)
+  -- Ok or Err, no entry is lost from memory but into tables
+  pub entries : KeepsOrCompacts env by.format [] old from new to
+
+-- The store of an engine makes room so, by the engine's options.
+pub record EngineMakesRoom {E C FP F P : Type 0} {B : Boxed} {keys : InternalOrder C}
+    {key_filters : FilterGhosts P} (env : Ghosts E F)
+    (choices : OptionsOf C FP B → TableChoices keys key_filters) (before : EngineOf E C FP F B)
+    (from : E) (result : Result (Unit {0}) Status) (after : EngineOf E C FP F B) (to : E)
+    : Type 0 where
+  pub smallest : ℕ
+  pub is_smallest : IsSmallestHeld before.snapshots.held before.store.set.last_sequence smallest
+  pub makes : StoreMakesRoom keys env (tables_by (formats_of choices) before) before.store from
+      before.tables (choices (options_in before)) before.options.write_buffer_size smallest result
+      after.store to after.tables
+  -- nothing else of the engine changes but the sink of the options' log, and its mode
+  pub rest : ChangesStore before after
+  pub sink : is_some after.options.log ≡ is_some before.options.log
+  -- it is broken where the store is
+  pub mode : FollowsStore after.mode after.store

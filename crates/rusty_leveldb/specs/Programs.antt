@@ -1,0 +1,9 @@
+-- The command language, runs of commands, lives of a store, and the program.
+pub mod Views
+pub mod Shell
+pub mod RunCalls
+pub mod RunAlone
+pub mod Lives
+pub mod Language
+pub mod Spelling
+pub mod Program

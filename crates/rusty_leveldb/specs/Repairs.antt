@@ -1,0 +1,3 @@
+-- A repair of the store under a name.
+pub mod Repair
+pub mod RepairLaws
