@@ -1,13 +1,14 @@
 //! Merges of lists beside the sorted list of their pairs.
 use super::children::{Device, Source, list_of, list_of_keys};
 use leveldb_base::cmp::DefaultCmp;
-use leveldb_base::error::{Result, StatusCode};
+use leveldb_base::error::{Result, StatusCode, err};
 use leveldb_iter::in_memory::InMemory;
-use leveldb_iter::merging_iter::MergeWalk;
+use leveldb_iter::merging_iter::{MergeCore, MergingIter};
 use leveldb_iter::walk::Walk;
+use leveldb_iter::walk_iter::WalkIter;
 use std::alloc::Global;
 
-type Merged = MergeWalk<DefaultCmp, Source<DefaultCmp>>;
+type Merged = MergeCore<DefaultCmp, Source<DefaultCmp>>;
 
 // Lists of keys, each of a letter, and all keys in order.
 const ROWS: [([&str; 3], &str); 8] = [
@@ -28,7 +29,7 @@ fn merge(alloc: Global, lists: &[&'static str; 3]) -> Result<Merged> {
             list: list_of(alloc, keys)?,
         })?;
     }
-    Ok(MergeWalk::new::<Device, ()>(DefaultCmp, children))
+    Ok(MergeCore::new::<Device, ()>(DefaultCmp, children))
 }
 
 // The moves, each a letter: advance, prev, the first pair, the last, the first at or after "d", and
@@ -192,13 +193,39 @@ fn moves_of_a_merge(rt: HostRuntime) -> Result<()> {
 }
 
 #[test]
+fn a_merge_beside_its_borrows(rt: HostRuntime) -> Result<()> {
+    let mut device = Device {
+        calls_left: u64::MAX,
+    };
+    let mut tables = ();
+    let core = merge(rt.alloc(), &["bde", "ag", "cf"])?;
+    let mut it: MergingIter<Device, (), DefaultCmp, Source<DefaultCmp>> = WalkIter::new(
+        core,
+        &mut device,
+        &mut tables,
+    );
+    it.seek(b"d")?;
+    assert!(rt; it.prev()? && it.valid() && it.current() == Some((b"c", b"c")));
+    let Some((key, value)) = it.next(rt.alloc())? else {
+        return err(rt.alloc(), StatusCode::NotFound, "d");
+    };
+    assert!(rt; key.as_slice() == b"d".as_slice() && value.as_slice() == b"d".as_slice());
+    it.seek_to_last()?;
+    assert!(rt; !it.advance()? && !it.valid() && it.next(rt.alloc())?.is_some());
+    it.seek_to_first()?;
+    it.reset();
+    assert!(rt; it.advance()? && it.current() == Some((b"a", b"a")));
+    Ok(())
+}
+
+#[test]
 fn iterators_as_walks(rt: HostRuntime) -> Result<()> {
     let mut device = Device { calls_left: 0 };
     let mut children = Vec::new(rt.alloc());
     for keys in ["ac", "bd"] {
         children.push(InMemory(list_of(rt.alloc(), keys)?))?;
     }
-    let mut it = MergeWalk::new::<Device, ()>(DefaultCmp, children);
+    let mut it = MergeCore::new::<Device, ()>(DefaultCmp, children);
     let letters = letters_left(rt.alloc(), &mut it, &mut device)?;
     assert!(rt; letters.as_slice() == b"abcd".as_slice());
     it.seek_to_last(&mut device, &mut ())?;
@@ -221,7 +248,7 @@ fn keys_that_share_a_prefix(rt: HostRuntime) -> Result<()> {
     let mut children = Vec::new(alloc);
     children.push(InMemory(list_of_keys(alloc, &[b"aba", b"abc", b"abe"])?))?;
     children.push(InMemory(list_of_keys(alloc, &[b"abb", b"abd"])?))?;
-    let mut it = MergeWalk::new::<Device, ()>(DefaultCmp, children);
+    let mut it = MergeCore::new::<Device, ()>(DefaultCmp, children);
     it.seek(&mut device, &mut (), b"ab0")?;
     assert!(rt; is_at_def(&it, b"aba"));
     it.seek(&mut device, &mut (), b"abx")?;

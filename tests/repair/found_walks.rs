@@ -12,7 +12,7 @@ use leveldb_env::filter::BloomPolicy;
 use leveldb_env::mem_env::MemEnv;
 use leveldb_env::options::{Options, in_memory};
 use leveldb_iter::in_memory::InMemory;
-use leveldb_iter::merging_iter::MergeWalk;
+use leveldb_iter::merging_iter::MergeCore;
 use leveldb_iter::walk::Walk;
 use leveldb_repair::found_walk::{FoundTable, FoundWalk, ReadFiles, open_found};
 use leveldb_table::table_builder::TableBuilder;
@@ -179,7 +179,7 @@ fn tables_and_memory_merged(rt: HostRuntime) -> Result<()> {
         FoundWalk::Memory(InMemory(listed)),
         FoundWalk::Table(other),
     ]?;
-    let mut merge = MergeWalk::new::<MemEnv, Read>(cmp, children);
+    let mut merge = MergeCore::new::<MemEnv, Read>(cmp, children);
     let pairs = pairs_of(&rt, (1, 90, 1))?;
     assert_walks(&rt, &mut env, &mut files, &mut merge, pairs.as_slice())
 }

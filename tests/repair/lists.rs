@@ -4,7 +4,7 @@ use leveldb_base::cmp::{DefaultCmp, InternalKeyCmp};
 use leveldb_base::error::Result;
 use leveldb_base::key_types::{ValueType, parse_internal_key, tag_bytes};
 use leveldb_iter::in_memory::InMemory;
-use leveldb_iter::merging_iter::MergeWalk;
+use leveldb_iter::merging_iter::MergeCore;
 use std::alloc::Global;
 use support::Listed;
 
@@ -13,7 +13,7 @@ pub type Row = (u8, u64, Option<u8>);
 
 pub type List = InMemory<Listed<InternalKeyCmp<DefaultCmp>>>;
 
-pub type Merged = MergeWalk<InternalKeyCmp<DefaultCmp>, List>;
+pub type Merged = MergeCore<InternalKeyCmp<DefaultCmp>, List>;
 
 /// The internal key and the value of a row.
 pub fn pair_of(alloc: Global, row: &Row) -> Result<(Bytes, Bytes)> {
@@ -76,5 +76,5 @@ pub fn merge_of(alloc: Global, lists: &[&[Row]]) -> Result<Merged> {
         }
         children.push(list_of(pairs))?;
     }
-    Ok(MergeWalk::new::<(), ()>(InternalKeyCmp(DefaultCmp), children))
+    Ok(MergeCore::new::<(), ()>(InternalKeyCmp(DefaultCmp), children))
 }

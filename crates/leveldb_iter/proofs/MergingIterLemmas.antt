@@ -20,7 +20,7 @@ use Rattle.leveldb_base.proofs.OrderLemmas.{bytes_same, same_bytes}
 use Rattle.leveldb_base.proofs.PositionLemmas.{last_before_end}
 use Rattle.leveldb_iter.specs.declared.children.Tie.TheVariants.{Alone, Shared}
 use Rattle.leveldb_iter.specs.declared.walk.Walk.{Ghosts as WalkGhosts}
-use Rattle.leveldb_iter.specs.declared.merging_iter.MergeWalk.{MergeWalk}
+use Rattle.leveldb_iter.specs.declared.merging_iter.MergeCore.{MergeCore}
 use Rattle.leveldb_iter.specs.Walk.{KeyOrder, key_order, Way, WalkLaws, MovesWalk, Resets}
 use Rattle.leveldb_iter.specs.Merge.{HaveOnePairAKey, IsCut, count_while, beside_cut}
 use Rattle.leveldb_iter.specs.Children.{list_at, head_of, same_key, AnyFails, AreOver, AreEachAt, AreEachLedTo, StepsOne, StepsEach, StepsAtKey, StepsCurrent, previous_or_last, IsChosen, IsTie}
@@ -129,7 +129,7 @@ module _ {E T I C : Type 0} (walk : WalkGhosts I E T) (laws : WalkLaws walk.over
     ordered = s.ordered ∙ ap (key_order cmp) (sym same);
   }
 
-  pub ready_each : {Step : E × T → I → KeyOrder → List Pair → Option ℕ → Type 0} {From : E × T → MergeWalk C I → KeyOrder → List (List Pair) → List Pair → Option ℕ → Type 0} {step to : Way} {d : Direction} {old_world : E × T} (old : MergeWalk C I)
+  pub ready_each : {Step : E × T → I → KeyOrder → List Pair → Option ℕ → Type 0} {From : E × T → MergeCore C I → KeyOrder → List (List Pair) → List Pair → Option ℕ → Type 0} {step to : Way} {d : Direction} {old_world : E × T} (old : MergeCore C I)
       {result : Result (Unit {0}) Status} {new_world : E × T} {new_cmp : C} {new_children : List I} {new_current : Option ℕ} {children : List I}
       → children ≡ old.children.items → StepsEach walk Step step old_world children result new_world new_children → new_cmp ≡ old.cmp → new_current ≡ None
       → ((order : KeyOrder) (lists : List (List Pair)) (pairs : List Pair) (position : Option ℕ) → From old_world old order lists pairs position → ComesBeside Step step to d old_world old.cmp old.children.items order lists pairs position)
@@ -195,7 +195,7 @@ module _ {E T I C : Type 0} (walk : WalkGhosts I E T) (laws : WalkLaws walk.over
     leads = ap (position_within pairs) (count_before-is order.cmp key pairs);
   }
 
-  module _ {world : E × T} {old : MergeWalk C I} {order : KeyOrder} {lists : List (List Pair)} {pairs : List Pair} {position : Option ℕ} (at : IsMergeOfListsAt walk cmp world old order lists pairs position) where
+  module _ {world : E × T} {old : MergeCore C I} {order : KeyOrder} {lists : List (List Pair)} {pairs : List Pair} {position : Option ℕ} (at : IsMergeOfListsAt walk cmp world old order lists pairs position) where
     -- how a merge is placed whose current child is known
     placed_at : (i : ℕ) (d : Direction) → old.current ≡ Some i → old.direction ≡ d → IsPlacedAt walk cmp world old.cmp old.children.items order lists pairs (Some i) old.shared d position
     placed_at i d e f =
@@ -360,7 +360,7 @@ module _ {E T I C : Type 0} (walk : WalkGhosts I E T) (laws : WalkLaws walk.over
             at = leads_to ∙ ap (toward d pairs) side.at ∙ sym (passed_own o p.0 p_accepted pairs m.rising m.accepted side.before d p own_pair equal_itself);
           }
 
-  pub ready_own : (d : Direction) (i : ℕ) {to : Way} {old_world : E × T} (old : MergeWalk C I)
+  pub ready_own : (d : Direction) (i : ℕ) {to : Way} {old_world : E × T} (old : MergeCore C I)
       {result : Result (Unit {0}) Status} {new_world : E × T} {new_cmp : C} {new_children : List I} {new_current : Option ℕ} {children : List I}
       → children ≡ old.children.items → old.current ≡ Some i → old.direction ≡ d → i < length old.children.items
       → ((order : KeyOrder) (list : List Pair) (q : Option ℕ) → to order list q ≡ toward d list q)
@@ -389,11 +389,11 @@ module _ {E T I C : Type 0} (walk : WalkGhosts I E T) (laws : WalkLaws walk.over
   -- ---- the second half
 
   -- at no position
-  pub resting : {world : E × T} (it : MergeWalk C I) {order : KeyOrder} {lists : List (List Pair)} {pairs : List Pair} → it.current ≡ None → IsMergeOfLists walk cmp world it order lists pairs → IsMergeOfListsAt walk cmp world it order lists pairs None
+  pub resting : {world : E × T} (it : MergeCore C I) {order : KeyOrder} {lists : List (List Pair)} {pairs : List Pair} → it.current ≡ None → IsMergeOfLists walk cmp world it order lists pairs → IsMergeOfListsAt walk cmp world it order lists pairs None
   resting {world} it {order} {lists} {pairs} none s = record { placed = subst (λ c. IsPlacedAt walk cmp world it.cmp it.children.items order lists pairs c it.shared it.direction None) (sym none) (s, refl) }
 
   -- a merge that is left at no position has the errors that it had
-  rests : {old_world : E × T} (old : MergeWalk C I) {new_world : E × T} (new : MergeWalk C I) → new.current ≡ None
+  rests : {old_world : E × T} (old : MergeCore C I) {new_world : E × T} (new : MergeCore C I) → new.current ≡ None
       → ((order : KeyOrder) (lists : List (List Pair)) (pairs : List Pair) → IsMergeOfLists walk cmp old_world old order lists pairs → IsMergeOfLists walk cmp new_world new order lists pairs)
       → ((later : E × T) (status : Status) → AnyFails walk new_world new.children.items later status → AnyFails walk old_world old.children.items later status)
       → (later : E × T) (status : Status) → FailsMerged walk cmp new_world new later status → FailsMerged walk cmp old_world old later status
@@ -406,7 +406,7 @@ module _ {E T I C : Type 0} (walk : WalkGhosts I E T) (laws : WalkLaws walk.over
       failed
 
   -- over the same pairs, at no position
-  at_none : {old_world : E × T} (old : MergeWalk C I) {new_world : E × T} (new : MergeWalk C I) → new.current ≡ None
+  at_none : {old_world : E × T} (old : MergeCore C I) {new_world : E × T} (new : MergeCore C I) → new.current ≡ None
       → ((order : KeyOrder) (lists : List (List Pair)) (pairs : List Pair) → IsMergeOfLists walk cmp old_world old order lists pairs → IsMergeOfLists walk cmp new_world new order lists pairs)
       → (order : KeyOrder) (pairs : List Pair) → IsMergeOver walk cmp old_world old order pairs → IsMergeAt walk cmp new_world new order pairs None
   at_none {old_world} old {new_world} new none stays order pairs over =
@@ -414,7 +414,7 @@ module _ {E T I C : Type 0} (walk : WalkGhosts I E T) (laws : WalkLaws walk.over
       (at.0, resting new none (stays order at.0 pairs (merged_over_lists old_world old order at.0 pairs over.0 at.1)))
 
   -- a merge that is moved to no position
-  pub reset_to_none : (old new : MergeWalk C I) → new.cmp ≡ old.cmp → new.children ≡ old.children → new.current ≡ None
+  pub reset_to_none : (old new : MergeCore C I) → new.cmp ≡ old.cmp → new.children ≡ old.children → new.current ≡ None
       → Resets (IsMergeOver walk cmp) (IsMergeAt walk cmp) (merged_here walk) (FailsMerged walk cmp) walk.keeps old new
   reset_to_none old new same_cmp same_children none = record {
     at_none = λ world. at_none old new none (stays world);
@@ -428,8 +428,8 @@ module _ {E T I C : Type 0} (walk : WalkGhosts I E T) (laws : WalkLaws walk.over
           stays_merged s same_cmp (ap length items) (subst (λ xs. AreOver walk world xs order lists) (sym items) s.over)
 
   -- Of a move from there, of which something is known over each list that the merge is over.
-  module _ (From : E × T → MergeWalk C I → KeyOrder → List Pair → Option ℕ → Type 0) (Begins : E × T → MergeWalk C I → KeyOrder → List (List Pair) → List Pair → Option ℕ → Type 0) (to : Way) (d : Direction)
-      (old_world : E × T) (old : MergeWalk C I) (new_world : E × T) (mid : MergeWalk C I)
+  module _ (From : E × T → MergeCore C I → KeyOrder → List Pair → Option ℕ → Type 0) (Begins : E × T → MergeCore C I → KeyOrder → List (List Pair) → List Pair → Option ℕ → Type 0) (to : Way) (d : Direction)
+      (old_world : E × T) (old : MergeCore C I) (new_world : E × T) (mid : MergeCore C I)
       (begins : (order : KeyOrder) (pairs : List Pair) (position : Option ℕ) → From old_world old order pairs position → (lists : List (List Pair)) × Begins old_world old order lists pairs position)
       (always : (order : KeyOrder) (lists : List (List Pair)) (pairs : List Pair) (position : Option ℕ) → IsMergeOfListsAt walk cmp old_world old order lists pairs position → (start : Option ℕ) × Begins old_world old order lists pairs start) where
     -- a first half that failed
@@ -446,7 +446,7 @@ module _ {E T I C : Type 0} (walk : WalkGhosts I E T) (laws : WalkLaws walk.over
     }
 
     -- the choice
-    module _ (new : MergeWalk C I) (r : Readies walk cmp Begins to d old_world old (Ok (tt {0})) new_world mid.cmp mid.children.items mid.current)
+    module _ (new : MergeCore C I) (r : Readies walk cmp Begins to d old_world old (Ok (tt {0})) new_world mid.cmp mid.children.items mid.current)
         (same_cmp : new.cmp ≡ mid.cmp) (same_children : new.children ≡ mid.children) (same_direction : new.direction ≡ d) (chosen : Result (Unit {0}) Status)
         (best : ((k : ℕ) (pair : Pair) → head_of walk mid.children.items k ≡ Some pair → cmp.accepts mid.cmp pair.0 ≡ true) → IsChosen (cmp.cmp mid.cmp) d (head_of walk mid.children.items) chosen new.current new.shared) where
       same_items : new.children.items ≡ mid.children.items
@@ -575,13 +575,13 @@ module _ {E T I C : Type 0} (walk : WalkGhosts I E T) (laws : WalkLaws walk.over
   -- ---- where moves begin
 
   -- a seek by this key begins over these pairs, and over these lists
-  abbrev pub SeeksOver : List ℕ → E × T → MergeWalk C I → KeyOrder → List Pair → Option ℕ → Type 0
+  abbrev pub SeeksOver : List ℕ → E × T → MergeCore C I → KeyOrder → List Pair → Option ℕ → Type 0
   SeeksOver key world it order pairs position = IsMergeOver walk cmp world it order pairs × (order.accepts key ≡ true)
 
-  abbrev pub SeeksFrom : List ℕ → E × T → MergeWalk C I → KeyOrder → List (List Pair) → List Pair → Option ℕ → Type 0
+  abbrev pub SeeksFrom : List ℕ → E × T → MergeCore C I → KeyOrder → List (List Pair) → List Pair → Option ℕ → Type 0
   SeeksFrom key world it order lists pairs position = IsMergeOfLists walk cmp world it order lists pairs × (order.accepts key ≡ true)
 
-  module _ (world : E × T) (it : MergeWalk C I) where
+  module _ (world : E × T) (it : MergeCore C I) where
     pub begins_at : (order : KeyOrder) (pairs : List Pair) (position : Option ℕ) → IsMergeAt walk cmp world it order pairs position → (lists : List (List Pair)) × IsMergeOfListsAt walk cmp world it order lists pairs position
     begins_at order pairs position at = at
 
@@ -611,7 +611,7 @@ module _ {E T I C : Type 0} (walk : WalkGhosts I E T) (laws : WalkLaws walk.over
           (None, (s, accepts_key s ∙ accepted))
 
       -- a key that isn't accepted leads to no position
-      pub unsought : (new : MergeWalk C I) → cmp.accepts it.cmp key ≡ false → new.cmp ≡ it.cmp → new.children ≡ it.children → new.current ≡ None
+      pub unsought : (new : MergeCore C I) → cmp.accepts it.cmp key ≡ false → new.cmp ≡ it.cmp → new.children ≡ it.children → new.current ≡ None
           → MovesWalk (IsMergeOver walk cmp) (IsMergeAt walk cmp) (merged_here walk) (FailsMerged walk cmp) walk.keeps (λ w i order pairs _. IsMergeOver walk cmp w i order pairs × (order.accepts key ≡ true))
           (λ order pairs _. seek_position order.cmp pairs key) world it (Ok (tt {0})) world new
       unsought new refuses same_cmp same_children none =

@@ -11,3 +11,4 @@ pub mod Snapshot
 pub mod DbIter
 pub mod DbIterSteps
 pub mod DbIterLaws
+pub mod WalkIter

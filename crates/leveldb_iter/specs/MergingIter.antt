@@ -7,7 +7,7 @@ use Rattle.leveldb_base.specs.declared.error.StatusCode.TheVariants.{Corruption}
 use Rattle.leveldb_base.specs.declared.types.Direction.{Direction}
 use Rattle.leveldb_base.specs.Types.{Pair, pair_at}
 use Rattle.leveldb_iter.specs.declared.walk.Walk.{Ghosts as WalkGhosts}
-use Rattle.leveldb_iter.specs.declared.merging_iter.MergeWalk.{MergeWalk}
+use Rattle.leveldb_iter.specs.declared.merging_iter.MergeCore.{MergeCore}
 use Rattle.leveldb_iter.specs.Walk.{KeyOrder, Way, key_order}
 use Rattle.leveldb_iter.specs.Children.{head_of, AnyFails, AreOver, AreEachAt}
 use Rattle.leveldb_iter.specs.Merge.{HaveOnePairAKey, IsCut, IsMerge, IsPairOf, beside_cut}
@@ -81,30 +81,30 @@ FailsOrClashes walk cmp world compares children later status =
 
 module _ {E T I C : Type 0} (walk : WalkGhosts I E T) (cmp : CmpGhosts C) where
   -- in this world a merge of walks over these lists is over these pairs
-  abbrev pub IsMergeOfLists : E × T → MergeWalk C I → KeyOrder → List (List Pair) → List Pair
+  abbrev pub IsMergeOfLists : E × T → MergeCore C I → KeyOrder → List (List Pair) → List Pair
       → Type 0
   IsMergeOfLists world it order lists pairs =
       AreMerged walk cmp world it.cmp it.children.items order lists pairs
 
   -- and at this position of them
-  pub record IsMergeOfListsAt (world : E × T) (it : MergeWalk C I) (order : KeyOrder)
+  pub record IsMergeOfListsAt (world : E × T) (it : MergeCore C I) (order : KeyOrder)
       (lists : List (List Pair)) (pairs : List Pair) (position : Option ℕ) : Type 0 where
     -- as its children are, and the current one
     pub placed : IsPlacedAt walk cmp world it.cmp it.children.items order lists pairs it.current
         it.shared it.direction position
 
   -- of some lists it is at this position
-  abbrev pub IsMergeAt : E × T → MergeWalk C I → KeyOrder → List Pair → Option ℕ → Type 0
+  abbrev pub IsMergeAt : E × T → MergeCore C I → KeyOrder → List Pair → Option ℕ → Type 0
   IsMergeAt world it order pairs position =
       (lists : List (List Pair)) × IsMergeOfListsAt world it order lists pairs position
 
   -- it is over these pairs: at some position of them, or at none
-  abbrev pub IsMergeOver : E × T → MergeWalk C I → KeyOrder → List Pair → Type 0
+  abbrev pub IsMergeOver : E × T → MergeCore C I → KeyOrder → List Pair → Type 0
   IsMergeOver world it order pairs = (position : Option ℕ) × IsMergeAt world it order pairs position
 
   -- The errors of a merge are those of its children, and `Corruption` where it is over no lists in
   -- which pairs of equal key are the same pair.
-  abbrev pub FailsMerged : E × T → MergeWalk C I → E × T → Status → Type 0
+  abbrev pub FailsMerged : E × T → MergeCore C I → E × T → Status → Type 0
   FailsMerged world it later status = AnyFails walk world it.children.items later status
       ⊎ ((status.code ≡ Corruption)
       × ((order : KeyOrder) (lists : List (List Pair)) (pairs : List Pair) (position : Option ℕ)
@@ -113,8 +113,8 @@ module _ {E T I C : Type 0} (walk : WalkGhosts I E T) (cmp : CmpGhosts C) where
   -- The first half of a merge's move, which leads this way from where the merge is. None of its
   -- children is the current one yet.
   pub record Readies
-      (From : E × T → MergeWalk C I → KeyOrder → List (List Pair) → List Pair → Option ℕ → Type 0)
-      (to : Way) (direction : Direction) (old_world : E × T) (old : MergeWalk C I)
+      (From : E × T → MergeCore C I → KeyOrder → List (List Pair) → List Pair → Option ℕ → Type 0)
+      (to : Way) (direction : Direction) (old_world : E × T) (old : MergeCore C I)
       (result : Result (Unit {0}) Status) (new_world : E × T)
       (new_cmp : C) (new_children : List I) (new_current : Option ℕ) : Type 0 where
     -- none of the children is the current one
@@ -139,5 +139,5 @@ module _ {E T I C : Type 0} (walk : WalkGhosts I E T) (cmp : CmpGhosts C) where
 
 module _ {E T I C : Type 0} (walk : WalkGhosts I E T) where
   -- the pair that the current child is at
-  abbrev pub merged_here : MergeWalk C I → Option Pair
+  abbrev pub merged_here : MergeCore C I → Option Pair
   merged_here it = option_and_then (head_of walk it.children.items) it.current

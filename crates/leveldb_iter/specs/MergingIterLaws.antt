@@ -7,7 +7,7 @@ use Rattle.leveldb_base.specs.declared.cmp.Cmp.{Ghosts as CmpGhosts}
 use Rattle.leveldb_base.specs.declared.error.Status.{Status}
 use Rattle.leveldb_base.specs.Types.{Pair, IsPosition, pair_at}
 use Rattle.leveldb_iter.specs.declared.walk.Walk.{Ghosts as WalkGhosts}
-use Rattle.leveldb_iter.specs.declared.merging_iter.MergeWalk.{MergeWalk}
+use Rattle.leveldb_iter.specs.declared.merging_iter.MergeCore.{MergeCore}
 use Rattle.leveldb_iter.specs.Walk.{KeyOrder, IsSortedIn, WalkLaws}
 use Rattle.leveldb_iter.specs.Merge.{beside_cut}
 use Rattle.leveldb_iter.specs.Children.{AnyFails, head_of, list_at}
@@ -21,7 +21,7 @@ position_of_pair pairs (Some i) pair e = slice_get_within pairs i pair e
 
 module _ {E T I C : Type 0} {walk : WalkGhosts I E T} {cmp : CmpGhosts C} where
   -- a merge at a position is over its lists and pairs
-  pub merged_over_lists : (world : E × T) (it : MergeWalk C I) (order : KeyOrder)
+  pub merged_over_lists : (world : E × T) (it : MergeCore C I) (order : KeyOrder)
       (lists : List (List Pair)) (pairs : List Pair) (position : Option ℕ)
       → IsMergeOfListsAt walk cmp world it order lists pairs position
       → AreMerged walk cmp world it.cmp it.children.items order lists pairs
@@ -34,7 +34,7 @@ module _ {E T I C : Type 0} {walk : WalkGhosts I E T} {cmp : CmpGhosts C} where
       by (Some i) placed = let side = placed.0 in side.merged
 
   -- the merged pairs are sorted
-  pub merged_sorted : (world : E × T) (it : MergeWalk C I) (order : KeyOrder) (pairs : List Pair)
+  pub merged_sorted : (world : E × T) (it : MergeCore C I) (order : KeyOrder) (pairs : List Pair)
       → IsMergeOver walk cmp world it order pairs → IsSortedIn order pairs
   merged_sorted world it order pairs s =
       let at = s.1 in
@@ -42,7 +42,7 @@ module _ {E T I C : Type 0} {walk : WalkGhosts I E T} {cmp : CmpGhosts C} where
       let merge = merged.merge in merge.sorted
 
   -- the pair of the current child is the one at the merge's position
-  pub merged_at_position : (world : E × T) (it : MergeWalk C I) (order : KeyOrder)
+  pub merged_at_position : (world : E × T) (it : MergeCore C I) (order : KeyOrder)
       (pairs : List Pair) (position : Option ℕ)
       → IsMergeAt walk cmp world it order pairs position
       → merged_here walk it ≡ pair_at pairs position
@@ -55,7 +55,7 @@ module _ {E T I C : Type 0} {walk : WalkGhosts I E T} {cmp : CmpGhosts C} where
       by (Some i) placed = let own = placed.1 in own.own ∙ sym own.same
 
   -- and the pairs have that position
-  pub merged_in_range : (world : E × T) (it : MergeWalk C I) (order : KeyOrder)
+  pub merged_in_range : (world : E × T) (it : MergeCore C I) (order : KeyOrder)
       (pairs : List Pair) (position : Option ℕ)
       → IsMergeAt walk cmp world it order pairs position → IsPosition pairs position
   merged_in_range world it order pairs position at = by it.current (at.1).placed
@@ -86,7 +86,7 @@ module _ {E T I C : Type 0} {walk : WalkGhosts I E T} {cmp : CmpGhosts C} where
       → walk.over first child order list → walk.over second child order list)
       → ((child : I) (order : KeyOrder) (list : List Pair) (position : Option ℕ)
       → walk.is_at first child order list position → walk.is_at second child order list position)
-      → (it : MergeWalk C I) (order : KeyOrder) (lists : List (List Pair)) (pairs : List Pair)
+      → (it : MergeCore C I) (order : KeyOrder) (lists : List (List Pair)) (pairs : List Pair)
       (position : Option ℕ) → IsMergeOfListsAt walk cmp first it order lists pairs position
       → IsMergeOfListsAt walk cmp second it order lists pairs position
   placed_stays first second over at it order lists pairs position was =
@@ -121,7 +121,7 @@ module _ {E T I C : Type 0} {walk : WalkGhosts I E T} {cmp : CmpGhosts C} where
       → walk.over first child order list → walk.over second child order list)
       → ((child : I) (order : KeyOrder) (list : List Pair) (position : Option ℕ)
       → walk.is_at first child order list position → walk.is_at second child order list position)
-      → (it : MergeWalk C I) (order : KeyOrder) (pairs : List Pair) (position : Option ℕ)
+      → (it : MergeCore C I) (order : KeyOrder) (pairs : List Pair) (position : Option ℕ)
       → IsMergeAt walk cmp first it order pairs position
       → IsMergeAt walk cmp second it order pairs position
   merged_stays first second over at it order pairs position was =
@@ -135,7 +135,7 @@ module _ {E T I C : Type 0} {walk : WalkGhosts I E T} {cmp : CmpGhosts C} where
       → walk.is_at first child order list position → walk.is_at second child order list position)
       → ((child : I) (later : E × T) (status : Status) → walk.fails second child later status
       → walk.fails first child later status)
-      → (it : MergeWalk C I) (later : E × T) (status : Status)
+      → (it : MergeCore C I) (later : E × T) (status : Status)
       → FailsMerged walk cmp second it later status → FailsMerged walk cmp first it later status
   merged_excuses first second over at excuses it later status failed = ⊎_elim
       (λ (any : AnyFails walk second it.children.items later status).

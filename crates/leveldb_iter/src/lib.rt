@@ -11,3 +11,4 @@ pub mod merging_iter;
 pub mod moves;
 pub mod snapshot;
 pub mod walk;
+pub mod walk_iter;

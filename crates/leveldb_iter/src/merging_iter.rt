@@ -7,6 +7,7 @@ ghost use Rattle.leveldb_iter.specs.Walk.{KeyOrder};
 
 use crate::children::{ChildStep, Tie, best_of, step_at_key, step_each, step_one};
 use crate::walk::Walk;
+use crate::walk_iter::WalkIter;
 use leveldb_base::cmp::Cmp;
 use leveldb_base::error::{Result, StatusCode, err};
 use leveldb_base::types::Direction;
@@ -19,7 +20,7 @@ use leveldb_base::types::Direction;
 /// one, and a turn one of each. Each child is then compared once at most. No move copies a key or
 /// takes memory, but for the text of that error.
 #[derive(Drop)]
-pub struct MergeWalk<C, I> {
+pub struct MergeCore<C, I> {
     cmp: C,
     children: Vec<I>,
     current: Option<usize>,
@@ -30,12 +31,15 @@ pub struct MergeWalk<C, I> {
     ghost within: { ForSome current (λ i. i < length children.items) },
 }
 
-impl<C: Cmp, I> MergeWalk<C, I> {
+/// A merge beside borrows of the environment and the tables that its children read from.
+pub type MergingIter<'a, E, T, C, I> = WalkIter<'a, E, T, MergeCore<C, I>>;
+
+impl<C: Cmp, I> MergeCore<C, I> {
     ghost use Rattle.leveldb_base.specs.declared.error.Status.{Status};
     ghost use Rattle.leveldb_iter.specs.MergingIter.{AreMerged, IsMergeAt, FailsMerged, FailsOrClashes, merged_here};
 
     /// The merge of these walks, at no position. They may be at any.
-    pub fn new<E, T>(cmp: C, children: Vec<I>) -> MergeWalk<C, I>
+    pub fn new<E, T>(cmp: C, children: Vec<I>) -> MergeCore<C, I>
     where
         I: Walk<E, T>,
         ensures is_at { (world : E × T) (order : KeyOrder) (lists : List (List Pair))
@@ -47,7 +51,7 @@ impl<C: Cmp, I> MergeWalk<C, I> {
             → FailsMerged I.Walk C.Cmp world result later status
             → FailsOrClashes I.Walk C.Cmp world cmp children.items later status }
     {
-        MergeWalk {
+        MergeCore {
             cmp,
             children,
             current: None,
@@ -57,7 +61,7 @@ impl<C: Cmp, I> MergeWalk<C, I> {
     }
 }
 
-impl<C: Cmp, I> MergeWalk<C, I> {
+impl<C: Cmp, I> MergeCore<C, I> {
     ghost use Rattle.std.specs.Prelude.{◌≡◌, ◌<◌, ◌⊎◌, true, ℕ, Some, IfErr, OnErr};
     ghost use Rattle.leveldb_base.specs.declared.error.StatusCode.TheVariants.{Corruption};
     ghost use Rattle.leveldb_base.specs.declared.types.Direction.TheVariants.{Forward, Reverse};
@@ -200,7 +204,7 @@ impl<C: Cmp, I> MergeWalk<C, I> {
     }
 }
 
-impl<E, T, C: Cmp, I: Walk<E, T>> Walk<E, T> for MergeWalk<C, I> {
+impl<E, T, C: Cmp, I: Walk<E, T>> Walk<E, T> for MergeCore<C, I> {
     ghost use Rattle.leveldb_iter.specs.MergingIter.{IsMergeOver, IsMergeAt, merged_here, FailsMerged};
     ghost use Rattle.leveldb_iter.specs.MergingIterLaws.{merged_laws};
 

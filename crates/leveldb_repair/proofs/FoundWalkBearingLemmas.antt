@@ -9,7 +9,7 @@ use Rattle.leveldb_base.specs.declared.types.LdbIterator.{Ghosts as IteratorGhos
 use Rattle.leveldb_env.specs.Compressor.{Codings}
 use Rattle.leveldb_env.specs.declared.env.Env.{Ghosts as EnvGhosts}
 use Rattle.leveldb_iter.specs.Walk.{KeyOrder}
-use Rattle.leveldb_iter.specs.declared.merging_iter.MergeWalk.{MergeWalk}
+use Rattle.leveldb_iter.specs.declared.merging_iter.MergeCore.{MergeCore}
 use Rattle.leveldb_iter.specs.declared.walk.Walk.{Ghosts as WalkGhosts}
 use Rattle.leveldb_files.specs.Stores.Paths.{table_path}
 use Rattle.leveldb_store.proofs.Compactions.BearingLemmas.{IsMergeOf, MovesKeep, NewTablesKeep, bears_new_tables, merge_borne, merge_moves}
@@ -64,7 +64,7 @@ module _ {E C K M F : Type 0} (order : CmpGhosts (InternalKeyCmp C)) (env : EnvG
                 ((is.fails_is (to, files) it later status).0 failed));
           }
 
-    module _ {merge : WalkGhosts (MergeWalk (InternalKeyCmp C) (FoundWalk E C M F)) E (ReadFiles K)}
+    module _ {merge : WalkGhosts (MergeCore (InternalKeyCmp C) (FoundWalk E C M F)) E (ReadFiles K)}
         (merges : IsMergeOf child order merge) where
       -- moves of the merge change no file
       pub merge_leaves_files : MovesLeaveFiles env merge

@@ -7,12 +7,12 @@ use Rattle.leveldb_iter.specs.Children.{AreOver}
 use Rattle.leveldb_iter.specs.Merge.{IsMerge}
 use Rattle.leveldb_iter.specs.MergingIter.{AreMerged, IsMergeAt, IsMergeOver}
 use Rattle.leveldb_iter.specs.Walk.{KeyOrder, key_order}
-use Rattle.leveldb_iter.specs.declared.merging_iter.MergeWalk.{MergeWalk}
+use Rattle.leveldb_iter.specs.declared.merging_iter.MergeCore.{MergeCore}
 use Rattle.leveldb_iter.specs.declared.walk.Walk.{Ghosts as WalkGhosts}
 
--- what `MergeWalk::new` says of where it is: over each merge of the lists of its children
+-- what `MergeCore::new` says of where it is: over each merge of the lists of its children
 module _ {E T I C : Type 0} (walk : WalkGhosts I E T) (cmp : CmpGhosts C) (compares : C)
-    (children : List I) (it : MergeWalk C I) where
+    (children : List I) (it : MergeCore C I) where
   pub over_merges : ((world : E × T) (order : KeyOrder) (lists : List (List Pair)) (pairs : List Pair)
       → AreMerged walk cmp world compares children order lists pairs
       → IsMergeAt walk cmp world it order pairs None)

@@ -7,7 +7,7 @@ use Rattle.leveldb_base.specs.declared.types.LdbIterator.{Ghosts as IteratorGhos
 use Rattle.leveldb_env.specs.Compressor.{Codings}
 use Rattle.leveldb_env.specs.declared.env.Env.{Ghosts as EnvGhosts}
 use Rattle.leveldb_iter.specs.MergingIter.{FailsMerged, IsMergeAt, IsMergeOver, merged_here}
-use Rattle.leveldb_iter.specs.declared.merging_iter.MergeWalk.{MergeWalk}
+use Rattle.leveldb_iter.specs.declared.merging_iter.MergeCore.{MergeCore}
 use Rattle.leveldb_iter.specs.declared.walk.Walk.{Ghosts as WalkGhosts}
 use Rattle.leveldb_store.proofs.Compactions.BearingLemmas.{IsMergeOf}
 use Rattle.leveldb_store.specs.Compactions.Merging.{BearsNewTables, MovesLeaveFiles}
@@ -39,7 +39,7 @@ module _ {E C K M F : Type 0} (order : CmpGhosts (InternalKeyCmp C)) (env : EnvG
 
   -- and that for the merge
   abbrev pub found_merge :
-      WalkGhosts (MergeWalk (InternalKeyCmp C) (FoundWalk E C M F)) E (ReadFiles K)
+      WalkGhosts (MergeCore (InternalKeyCmp C) (FoundWalk E C M F)) E (ReadFiles K)
   found_merge = record {
     over = IsMergeOver found_child order;
     is_at = IsMergeAt found_child order;

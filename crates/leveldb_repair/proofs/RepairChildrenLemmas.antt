@@ -21,7 +21,7 @@ use Rattle.leveldb_iter.specs.MergedEntries.{internal_order}
 use Rattle.leveldb_iter.specs.MergingIter.{AreMerged, IsMergeAt}
 use Rattle.leveldb_iter.specs.InMemory.{IsAloneOver}
 use Rattle.leveldb_iter.specs.Walk.{IsSortedIn, KeyOrder, key_order}
-use Rattle.leveldb_iter.specs.declared.merging_iter.MergeWalk.{MergeWalk}
+use Rattle.leveldb_iter.specs.declared.merging_iter.MergeCore.{MergeCore}
 use Rattle.leveldb_iter.specs.declared.in_memory.InMemory.{InMemory}
 use Rattle.leveldb_iter.specs.declared.walk.Walk.{Ghosts as WalkGhosts}
 use Rattle.leveldb_mem.specs.MemTable.{MemTableState}
@@ -181,9 +181,9 @@ module _ {E C K M F : Type 0} (order : CmpGhosts (InternalKeyCmp C)) (env : EnvG
 
   module _ {child : WalkGhosts (FoundWalk E C M F) E (ReadFiles K)}
       (is : IsFoundChild order env codings iterator child)
-      {merge : WalkGhosts (MergeWalk (InternalKeyCmp C) (FoundWalk E C M F)) E (ReadFiles K)}
+      {merge : WalkGhosts (MergeCore (InternalKeyCmp C) (FoundWalk E C M F)) E (ReadFiles K)}
       (merges : IsMergeOf child order merge) (children : List (FoundWalk E C M F))
-      (it : MergeWalk (InternalKeyCmp C) (FoundWalk E C M F))
+      (it : MergeCore (InternalKeyCmp C) (FoundWalk E C M F))
       (made : (world : E × ReadFiles K) (by : KeyOrder) (lists : List (List Pair))
       (pairs : List Pair)
       → AreMerged child order world (record { 0 = compares }) children by lists pairs
@@ -202,7 +202,7 @@ module _ {E C K M F : Type 0} (order : CmpGhosts (InternalKeyCmp C)) (env : EnvG
     -- What a look over the merge comes to that ends: the lists have one pair of each key, and the
     -- walk is over their merge, which was looked over.
     pub record AreLooked (found : LookedOver) (end : E × ReadFiles K)
-        (now : MergeWalk (InternalKeyCmp C) (FoundWalk E C M F)) : Type 0 where
+        (now : MergeCore (InternalKeyCmp C) (FoundWalk E C M F)) : Type 0 where
       pub pairs : List Pair
       pub merged : IsMerge keys lists pairs
       pub one : HaveOnePairAKey keys lists
@@ -210,7 +210,7 @@ module _ {E C K M F : Type 0} (order : CmpGhosts (InternalKeyCmp C)) (env : EnvG
       pub over_then : merge.over end now keys pairs
 
     pub look_reads : {found : LookedOver} {end : E × ReadFiles K}
-        {now : MergeWalk (InternalKeyCmp C) (FoundWalk E C M F)}
+        {now : MergeCore (InternalKeyCmp C) (FoundWalk E C M F)}
         → LooksOver merge world it (Ok found) end now → AreLooked found end now
     look_reads {found} looks =
         let has = children_have_merge world children lists over in

@@ -19,7 +19,7 @@ use Rattle.leveldb_iter.specs.Merge.{HaveOnePairAKey, IsMerge}
 use Rattle.leveldb_iter.specs.MergedEntries.{internal_order}
 use Rattle.leveldb_iter.specs.MergingIter.{AreMerged, FailsMerged, FailsOrClashes, IsMergeAt}
 use Rattle.leveldb_iter.specs.Walk.{KeyOrder, key_order}
-use Rattle.leveldb_iter.specs.declared.merging_iter.MergeWalk.{MergeWalk}
+use Rattle.leveldb_iter.specs.declared.merging_iter.MergeCore.{MergeCore}
 use Rattle.leveldb_iter.specs.declared.walk.Walk.{Ghosts as WalkGhosts}
 use Rattle.leveldb_table.specs.TableBlock.{HasLackCode}
 use Rattle.leveldb_version.proofs.Versions.PairwiseLemmas.{each_first}
@@ -76,7 +76,7 @@ module _ {E C K M F : Type 0} (order : CmpGhosts (InternalKeyCmp C)) (env : EnvG
       (is : IsFoundChild order env codings iterator child) where
     -- so does a merge, or with the code of a clash, which is one of those
     pub merge_fails_anyhow : (world later : E × ReadFiles K)
-        (it : MergeWalk (InternalKeyCmp C) (FoundWalk E C M F)) (status : Status)
+        (it : MergeCore (InternalKeyCmp C) (FoundWalk E C M F)) (status : Status)
         → FailsMerged child order world it later status
         → FailsBetweenOr env (HasLackCode env (codings_in order env codings world) status) world.0
         later.0 status
@@ -95,9 +95,9 @@ module _ {E C K M F : Type 0} (order : CmpGhosts (InternalKeyCmp C)) (env : EnvG
     (compares : C) (exact : IsExactOrder (cmp.cmp compares))
     {child : WalkGhosts (FoundWalk E C M F) E (ReadFiles K)}
     (is : IsFoundChild order env codings iterator child)
-    {merge : WalkGhosts (MergeWalk (InternalKeyCmp C) (FoundWalk E C M F)) E (ReadFiles K)}
+    {merge : WalkGhosts (MergeCore (InternalKeyCmp C) (FoundWalk E C M F)) E (ReadFiles K)}
     (merges : IsMergeOf child order merge) (children : List (FoundWalk E C M F))
-    (it : MergeWalk (InternalKeyCmp C) (FoundWalk E C M F))
+    (it : MergeCore (InternalKeyCmp C) (FoundWalk E C M F))
     (made : (world : E × ReadFiles K) (by : KeyOrder) (lists : List (List Pair))
     (pairs : List Pair)
     → AreMerged child order world (record { 0 = compares }) children by lists pairs
@@ -184,7 +184,7 @@ module _ {E C K M F : Type 0} (order : CmpGhosts (InternalKeyCmp C)) (env : EnvG
 
     -- so a look over it fails since two pairs clash at most
     pub look_fails : {status : Status} {end : E × ReadFiles K}
-        {now : MergeWalk (InternalKeyCmp C) (FoundWalk E C M F)}
+        {now : MergeCore (InternalKeyCmp C) (FoundWalk E C M F)}
         → LooksOver merge world it (Err status) end now
         → FailsBetweenOr env ((status.code ≡ Corruption) × HaveClash by_keys lists) world.0 end.0
         status
@@ -199,7 +199,7 @@ module _ {E C K M F : Type 0} (order : CmpGhosts (InternalKeyCmp C)) (env : EnvG
     -- After a look over it that ended, and moves that lead to another end: why a move failed when
     -- its pairs were written, where it bears new tables.
     pub write_fails : (store : List ℕ) (first : ℕ) {found : LookedOver} {mid end : E × ReadFiles K}
-        {now : MergeWalk (InternalKeyCmp C) (FoundWalk E C M F)} {status : Status}
+        {now : MergeCore (InternalKeyCmp C) (FoundWalk E C M F)} {status : Status}
         → HaveOnePairAKey by_keys lists → LooksOver merge world it (Ok found) mid now
         → BearsNewTables env merge store first mid
         → FailsOnWay env merge store first mid now end status

@@ -23,7 +23,7 @@ use Rattle.leveldb_iter.specs.Merge.{HaveOnePairAKey, IsMerge}
 use Rattle.leveldb_iter.specs.MergedEntries.{internal_order}
 use Rattle.leveldb_iter.specs.MergingIter.{AreMerged, FailsMerged, FailsOrClashes, IsMergeAt}
 use Rattle.leveldb_iter.specs.Walk.{KeyOrder, key_order}
-use Rattle.leveldb_iter.specs.declared.merging_iter.MergeWalk.{MergeWalk}
+use Rattle.leveldb_iter.specs.declared.merging_iter.MergeCore.{MergeCore}
 use Rattle.leveldb_iter.specs.declared.walk.Walk.{Ghosts as WalkGhosts}
 use Rattle.leveldb_table.specs.TableBlock.{HasLackCode}
 use Rattle.leveldb_files.proofs.Stores.OneStoreLemmas.{in_flat}
@@ -55,12 +55,12 @@ module _ {E C K M F FP : Type 0} {order : CmpGhosts (InternalKeyCmp C)} {filters
     (exact : IsExactOrder (cmp.cmp choices.cmp.0))
     {child : WalkGhosts (FoundWalk E C M F) E (ReadFiles K)}
     (is : IsFoundChild order env codings iterator child)
-    {merge : WalkGhosts (MergeWalk (InternalKeyCmp C) (FoundWalk E C M F)) E (ReadFiles K)}
+    {merge : WalkGhosts (MergeCore (InternalKeyCmp C) (FoundWalk E C M F)) E (ReadFiles K)}
     (merges : IsMergeOf child order merge) where
   -- a new merge of walks over all that is found is over it
   pub walks_over_found : (store : List ℕ) (taken : ℕ) (world : E × ReadFiles K)
       (children : List (FoundWalk E C M F))
-      (it : MergeWalk (InternalKeyCmp C) (FoundWalk E C M F))
+      (it : MergeCore (InternalKeyCmp C) (FoundWalk E C M F))
       → ((at : E × ReadFiles K) (by : KeyOrder) (lists : List (List Pair)) (pairs : List Pair)
       → AreMerged child order at choices.cmp children by lists pairs
       → IsMergeAt child order at it by pairs None)

@@ -8,7 +8,7 @@ use leveldb_base::cmp::{Cmp, InternalKeyCmp, UserCmp};
 use leveldb_base::error::Result;
 use leveldb_env::env::Env;
 use leveldb_env::filter::FilterPolicy;
-use leveldb_iter::merging_iter::MergeWalk;
+use leveldb_iter::merging_iter::MergeCore;
 use leveldb_iter::walk::Walk;
 use leveldb_version::table_cache::{ReadTables, ReadsTables};
 use leveldb_version::version::Version;
@@ -37,5 +37,5 @@ where
 {
     let iters = inputs.new_iters(alloc)?;
     let cmp = InternalKeyCmp(cmp);
-    Ok(MergeWalk::new::<E, ReadTables<'b, E, C, FP, K>>(cmp, iters))
+    Ok(MergeCore::new::<E, ReadTables<'b, E, C, FP, K>>(cmp, iters))
 }

@@ -24,6 +24,7 @@ pub use leveldb_iter::moves::{Move, Step};
 pub use leveldb_iter::snapshot::Snapshot;
 pub use leveldb_iter::{
     db_iter as db_iter_core, in_memory, laws as iter_laws, merging_iter, moves, snapshot, walk,
+    walk_iter,
 };
 pub use leveldb_mem::skipmap::SkipMap;
 pub use leveldb_mem::write_batch::WriteBatch;

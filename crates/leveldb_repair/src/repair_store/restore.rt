@@ -20,7 +20,7 @@ use leveldb_env::compressor::{CompressorList, Compressors};
 use leveldb_env::env::Env;
 use leveldb_env::filter::{FilterPolicy, InternalFilterPolicy};
 use leveldb_env::options::Options;
-use leveldb_iter::merging_iter::MergeWalk;
+use leveldb_iter::merging_iter::MergeCore;
 use leveldb_iter::walk::Walk;
 use leveldb_version::version_edit::VersionEdit;
 use leveldb_version::version_set::{VersionSet, make_manifest_of};
@@ -57,7 +57,7 @@ pub(super) fn restore_walks<
         (env.old, files.old) children.items
         → RepairsStore choices E.Env plan.now.store.now env.old result env.new }
 {
-    let mut merge = MergeWalk::new::<E, ReadFiles<'_, K>>(
+    let mut merge = MergeCore::new::<E, ReadFiles<'_, K>>(
         InternalKeyCmp(plan.options.cmp),
         children,
     );

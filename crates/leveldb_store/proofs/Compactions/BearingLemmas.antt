@@ -13,7 +13,7 @@ use Rattle.leveldb_env.specs.declared.filter.FilterPolicy.{Ghosts as FilterGhost
 use Rattle.leveldb_iter.specs.MergingIter.{FailsMerged, IsMergeAt, IsMergeOver}
 use Rattle.leveldb_iter.specs.MergingIterLaws.{merged_excuses, merged_stays}
 use Rattle.leveldb_iter.specs.Walk.{KeyOrder}
-use Rattle.leveldb_iter.specs.declared.merging_iter.MergeWalk.{MergeWalk}
+use Rattle.leveldb_iter.specs.declared.merging_iter.MergeCore.{MergeCore}
 use Rattle.leveldb_iter.specs.declared.walk.Walk.{Ghosts as WalkGhosts}
 use Rattle.leveldb_version.proofs.Walks.WalksBesideLemmas.{walks_stay_beside}
 use Rattle.leveldb_files.specs.Stores.Paths.{table_path}
@@ -70,18 +70,18 @@ module _ {E F T W : Type 0} (env : EnvGhosts E F) (walk : WalkGhosts W E T) (sto
 
 -- the one walk is the merge of others of this kind
 pub record IsMergeOf {E T I C : Type 0} (child : WalkGhosts I E T) (cmp : CmpGhosts C)
-    (merge : WalkGhosts (MergeWalk C I) E T) : Type 0 where
-  pub over_is : (world : E × T) (it : MergeWalk C I) (order : KeyOrder) (pairs : List Pair)
+    (merge : WalkGhosts (MergeCore C I) E T) : Type 0 where
+  pub over_is : (world : E × T) (it : MergeCore C I) (order : KeyOrder) (pairs : List Pair)
       → merge.over world it order pairs ↔ IsMergeOver child cmp world it order pairs
-  pub at_is : (world : E × T) (it : MergeWalk C I) (order : KeyOrder) (pairs : List Pair)
+  pub at_is : (world : E × T) (it : MergeCore C I) (order : KeyOrder) (pairs : List Pair)
       (position : Option ℕ) → merge.is_at world it order pairs position
       ↔ IsMergeAt child cmp world it order pairs position
-  pub fails_is : (world : E × T) (it : MergeWalk C I) (later : E × T) (status : Status)
+  pub fails_is : (world : E × T) (it : MergeCore C I) (later : E × T) (status : Status)
       → merge.fails world it later status ↔ FailsMerged child cmp world it later status
   pub keeps : (at to : E × T) → merge.keeps at to → child.keeps at to
 
 module _ {E F T I C : Type 0} (env : EnvGhosts E F) {child : WalkGhosts I E T} {cmp : CmpGhosts C}
-    (store : List ℕ) (first : ℕ) (Given : E × T → Type 0) {merge : WalkGhosts (MergeWalk C I) E T}
+    (store : List ℕ) (first : ℕ) (Given : E × T → Type 0) {merge : WalkGhosts (MergeCore C I) E T}
     (is : IsMergeOf child cmp merge) where
   -- a merge bears what its children bear
   pub merge_borne : NewTablesKeep env child store first Given

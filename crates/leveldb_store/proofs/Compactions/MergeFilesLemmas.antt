@@ -13,7 +13,7 @@ use Rattle.leveldb_base.specs.declared.types.FileMetaData.{FileMetaData}
 use Rattle.leveldb_env.specs.Compressor.{Codings}
 use Rattle.leveldb_env.specs.declared.env.Env.{Ghosts as EnvGhosts}
 use Rattle.leveldb_env.specs.declared.filter.FilterPolicy.{Ghosts as FilterGhosts}
-use Rattle.leveldb_iter.specs.declared.merging_iter.MergeWalk.{MergeWalk}
+use Rattle.leveldb_iter.specs.declared.merging_iter.MergeCore.{MergeCore}
 use Rattle.leveldb_iter.specs.declared.walk.Walk.{Ghosts as WalkGhosts}
 use Rattle.leveldb_version.specs.Compactions.Compaction.{MergesOrMoves, files_of_tables, is_base_level_for}
 use Rattle.leveldb_version.specs.Compactions.CompactionEdit.{HasMadeOutputs}
@@ -49,10 +49,10 @@ use Rattle.leveldb_store.proofs.Logs.ReplayFilesLemmas.{GivesNumbers-refl}
 module _ {E F C FP K P : Type 0} {keys : CmpGhosts (InternalKeyCmp C)}
     {key_filters : FilterGhosts P} (env : EnvGhosts E F) (cmp : CmpGhosts C)
     (filters : FilterGhosts FP) (codings : K → Codings)
-    {walk : WalkGhosts (MergeWalk (InternalKeyCmp C) (VersionIter C)) E (ReadTables E C FP K F)}
+    {walk : WalkGhosts (MergeCore (InternalKeyCmp C) (VersionIter C)) E (ReadTables E C FP K F)}
     {value : OpenStoreValue C} {it : CompactionValue C}
     (choices : TableChoices keys key_filters) (builds : BuildsForStore choices) (policy : FP)
-    {start : E × ReadTables E C FP K F} {walked : MergeWalk (InternalKeyCmp C) (VersionIter C)}
+    {start : E × ReadTables E C FP K F} {walked : MergeCore (InternalKeyCmp C) (VersionIter C)}
     (m : IsMergeOfStore env cmp filters codings walk value it choices policy start walked)
     (smallest : ℕ) {X : Type 0} (items : X → List FileMetaData)
     (end : E × ReadTables E C FP K F) (new : OpenStoreValue C) where

@@ -21,7 +21,7 @@ use Rattle.leveldb_iter.specs.Merge.{HaveOnePairAKey}
 use Rattle.leveldb_iter.specs.MergedEntries.{internal_order}
 use Rattle.leveldb_iter.specs.MergingIter.{AreMerged, FailsMerged, FailsOrClashes, IsMergeAt}
 use Rattle.leveldb_iter.specs.Walk.{IsSortedIn, KeyOrder, key_order}
-use Rattle.leveldb_iter.specs.declared.merging_iter.MergeWalk.{MergeWalk}
+use Rattle.leveldb_iter.specs.declared.merging_iter.MergeCore.{MergeCore}
 use Rattle.leveldb_iter.specs.declared.walk.Walk.{Ghosts as WalkGhosts}
 use Rattle.leveldb_version.proofs.Versions.PairwiseLemmas.{each_second}
 use Rattle.leveldb_version.proofs.Versions.SearchLemmas.{all_from_contains}
@@ -180,11 +180,11 @@ module _ {E F C FP K : Type 0} {keys : CmpGhosts (InternalKeyCmp C)} (env : EnvG
     → key_order keys (record { 0 = c }) ≡ internal_order (any_in_order (cmp.cmp c)))
     (exact : (c : C) → IsExactOrder (cmp.cmp c))
     {child : WalkGhosts (VersionIter C) E (ReadTables E C FP K F)}
-    {walk : WalkGhosts (MergeWalk (InternalKeyCmp C) (VersionIter C)) E (ReadTables E C FP K F)}
+    {walk : WalkGhosts (MergeCore (InternalKeyCmp C) (VersionIter C)) E (ReadTables E C FP K F)}
   where
     -- new walks over the tables of a version are merged
     pub tables_merged : {inputs : VersionValue C} {compares : C} {iters : List (VersionIter C)}
-        {it : MergeWalk (InternalKeyCmp C) (VersionIter C)} → AreVersionIters inputs iters
+        {it : MergeCore (InternalKeyCmp C) (VersionIter C)} → AreVersionIters inputs iters
         → AreInVersionOrder (cmp.cmp inputs.cmp) (new_files_of inputs)
         → ((world : E × ReadTables E C FP K F) (order : KeyOrder) (lists : List (List Pair))
         (pairs : List Pair)

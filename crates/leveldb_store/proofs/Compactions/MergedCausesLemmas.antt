@@ -22,7 +22,7 @@ use Rattle.leveldb_env.specs.EnvFile.{failed}
 use Rattle.leveldb_env.specs.declared.env.Env.{Ghosts as EnvGhosts}
 use Rattle.leveldb_env.specs.declared.filter.FilterPolicy.{Ghosts as FilterGhosts}
 use Rattle.leveldb_iter.specs.Walk.{key_order}
-use Rattle.leveldb_iter.specs.declared.merging_iter.MergeWalk.{MergeWalk}
+use Rattle.leveldb_iter.specs.declared.merging_iter.MergeCore.{MergeCore}
 use Rattle.leveldb_iter.specs.declared.walk.Walk.{Ghosts as WalkGhosts}
 use Rattle.leveldb_version.proofs.Compactions.AmongLemmas.{among_tells}
 use Rattle.leveldb_version.proofs.Compactions.ContradictionLemmas.{tables_agree_with_edits}
@@ -93,10 +93,10 @@ memory_or_not status = by status.code refl
 module _ {E F C FP K P : Type 0} {keys : CmpGhosts (InternalKeyCmp C)}
     {key_filters : FilterGhosts P} (env : EnvGhosts E F) (cmp : CmpGhosts C)
     (filters : FilterGhosts FP) (codings : K → Codings)
-    (walk : WalkGhosts (MergeWalk (InternalKeyCmp C) (VersionIter C)) E (ReadTables E C FP K F))
+    (walk : WalkGhosts (MergeCore (InternalKeyCmp C) (VersionIter C)) E (ReadTables E C FP K F))
     (value : OpenStoreValue C) (it : CompactionValue C)
     (choices : TableChoices keys key_filters) (policy : FP) (start : E × ReadTables E C FP K F)
-    (walked : MergeWalk (InternalKeyCmp C) (VersionIter C)) where
+    (walked : MergeCore (InternalKeyCmp C) (VersionIter C)) where
   -- with what tables are opened
   abbrev pub by_choices : TableOptions C FP
   by_choices = record { format = choices.format; cmp = choices.cmp.0; policy = policy }
@@ -329,10 +329,10 @@ module _ {E F C FP K P : Type 0} {keys : CmpGhosts (InternalKeyCmp C)}
 pub merge_of_store : {E F C FP K P : Type 0} {keys : CmpGhosts (InternalKeyCmp C)}
     {key_filters : FilterGhosts P} (env : EnvGhosts E F) (cmp : CmpGhosts C)
     (filters : FilterGhosts FP) (codings : K → Codings)
-    {walk : WalkGhosts (MergeWalk (InternalKeyCmp C) (VersionIter C)) E (ReadTables E C FP K F)}
+    {walk : WalkGhosts (MergeCore (InternalKeyCmp C) (VersionIter C)) E (ReadTables E C FP K F)}
     {value : OpenStoreValue C} {it : CompactionValue C} {choices : TableChoices keys key_filters}
     {policy : FP} {start : E × ReadTables E C FP K F}
-    {walked : MergeWalk (InternalKeyCmp C) (VersionIter C)}
+    {walked : MergeCore (InternalKeyCmp C) (VersionIter C)}
     → ((e : E) → env.failures e < 2 ^ 64) → IsExactOrder choices.format.order
     → choices.format.order ≡ cmp.cmp value.cmp → choices.format.order ≡ cmp.cmp choices.cmp.0
     → IsOfStore env.models_disk choices.format.order value it → it.inputs.cmp ≡ it.version.cmp
@@ -356,8 +356,8 @@ merge_of_store env cmp filters codings counts exact same own of inputs_cmp reads
 
 module _ {E F C FP K : Type 0} {keys : CmpGhosts (InternalKeyCmp C)} (env : EnvGhosts E F)
     (cmp : CmpGhosts C) (filters : FilterGhosts FP) (codings : K → Codings)
-    {walk : WalkGhosts (MergeWalk (InternalKeyCmp C) (VersionIter C)) E (ReadTables E C FP K F)}
-    {inputs : VersionValue C} {compares : C} {it : MergeWalk (InternalKeyCmp C) (VersionIter C)}
+    {walk : WalkGhosts (MergeCore (InternalKeyCmp C) (VersionIter C)) E (ReadTables E C FP K F)}
+    {inputs : VersionValue C} {compares : C} {it : MergeCore (InternalKeyCmp C) (VersionIter C)}
     (merges : MergesTablesOf keys env cmp filters codings walk inputs compares it) where
   -- the walk's moves change no file
   pub inputs_leave : MovesLeaveFiles env walk

@@ -19,7 +19,7 @@ use Rattle.leveldb_env.specs.declared.env.Env.{Ghosts}
 use Rattle.leveldb_iter.specs.DbIter.{FailsView, IsViewOver}
 use Rattle.leveldb_iter.specs.Walk.{KeyOrder}
 use Rattle.leveldb_iter.specs.declared.db_iter.ViewWalk.{ViewWalk}
-use Rattle.leveldb_iter.specs.declared.merging_iter.MergeWalk.{MergeWalk}
+use Rattle.leveldb_iter.specs.declared.merging_iter.MergeCore.{MergeCore}
 use Rattle.leveldb_iter.specs.declared.walk.Walk.{Ghosts as WalkGhosts}
 use Rattle.leveldb_store.specs.Writing.Room.{HasFailed}
 use Rattle.leveldb_store.specs.Reading.View.{CountsErrors, FailsBetween}
@@ -83,8 +83,8 @@ module _ (cmp : List ℕ → List ℕ → Ordering) (exact : IsExactOrder cmp) (
 module _ {E F T : Type 0} (env : Ghosts E F) where
   -- the errors of a merge are counted where its children's are, but a clash, which may come at any
   -- time
-  pub merged_counts : {I C : Type 0} (fails : E × T → I → E × T → Status → Type 0) (clashes : E × T → MergeWalk C I → Status → Type 0) → CountsErrors env fails
-      → CountsErrors env (λ world (it : MergeWalk C I) later status. Any (λ child. fails world child later status) it.children.items ⊎ clashes world it status)
+  pub merged_counts : {I C : Type 0} (fails : E × T → I → E × T → Status → Type 0) (clashes : E × T → MergeCore C I → Status → Type 0) → CountsErrors env fails
+      → CountsErrors env (λ world (it : MergeCore C I) later status. Any (λ child. fails world child later status) it.children.items ⊎ clashes world it status)
   merged_counts fails clashes counts from to it status = ⊎_elim
       (λ (any : Any (λ child. fails from child to status) it.children.items). ⊎_elim
       (λ (out : IsOutOfMemory status). inl out)

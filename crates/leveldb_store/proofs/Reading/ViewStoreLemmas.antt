@@ -21,7 +21,7 @@ use Rattle.leveldb_iter.specs.Children.{AnyFails}
 use Rattle.leveldb_iter.specs.MergedEntries.{internal_order}
 use Rattle.leveldb_iter.specs.Walk.{KeyOrder, key_order}
 use Rattle.leveldb_iter.specs.declared.db_iter.ViewWalk.{ViewWalk}
-use Rattle.leveldb_iter.specs.declared.merging_iter.MergeWalk.{MergeWalk}
+use Rattle.leveldb_iter.specs.declared.merging_iter.MergeCore.{MergeCore}
 use Rattle.leveldb_iter.specs.declared.walk.Walk.{Ghosts as WalkGhosts}
 use Rattle.leveldb_version.proofs.Walks.VersionLayersLemmas.{version_iters_are_layers}
 use Rattle.leveldb_files.specs.Stores.Format.{IsTableFault, Meaning}
@@ -58,11 +58,11 @@ module _ {E F C FP K M : Type 0} {keys : CmpGhosts (InternalKeyCmp C)} (env : En
     (child_over : (world : E × ReadTables E C FP K F) (it : StoreWalk C M) (order : KeyOrder) (pairs : List Pair) → IsStoreOver keys env cmp filters codings iterator world it order pairs → child.over world it order pairs)
     (child_fails : (world : E × ReadTables E C FP K F) (it : StoreWalk C M) (later : E × ReadTables E C FP K F) (status : Status) → child.fails world it later status
     → FailsInStore keys env cmp filters codings iterator world it later status)
-    (walk : WalkGhosts (ViewWalk (MergeWalk (InternalKeyCmp C) (StoreWalk C M))) E (ReadTables E C FP K F))
+    (walk : WalkGhosts (ViewWalk (MergeCore (InternalKeyCmp C) (StoreWalk C M))) E (ReadTables E C FP K F))
     (value : OpenStoreValue C) (current : IsCurrent (cmp.cmp value.cmp) value.cmp value.set value.current) (given : AreNumbersGiven value.set value.set.full.added)
     (levels : AreInLevels env.models_disk (cmp.cmp value.cmp) value.set.full.added)
     (children : List (StoreWalk C M)) (are : AreChildrenOf iterator (cmp.cmp value.cmp) value children)
-    (sequence : ℕ) (it : ViewWalk (MergeWalk (InternalKeyCmp C) (StoreWalk C M)))
+    (sequence : ℕ) (it : ViewWalk (MergeCore (InternalKeyCmp C) (StoreWalk C M)))
     (compares : C) (compares_is : compares ≡ value.cmp) (last : ℕ) (last_is : last ≡ min sequence greatest_sequence) (made : ViewsMerge child keys walk (record { 0 = compares }) children last it) where
   merge : ViewsMerge child keys walk (record { 0 = value.cmp }) children (min sequence greatest_sequence) it
   merge = subst (λ c. ViewsMerge child keys walk (record { 0 = c }) children (min sequence greatest_sequence) it) compares_is

@@ -12,7 +12,7 @@ use Rattle.leveldb_env.specs.Compressor.{Codings}
 use Rattle.leveldb_env.specs.declared.env.Env.{Ghosts as EnvGhosts}
 use Rattle.leveldb_env.specs.declared.filter.FilterPolicy.{Ghosts as FilterGhosts}
 use Rattle.leveldb_iter.specs.Walk.{key_order}
-use Rattle.leveldb_iter.specs.declared.merging_iter.MergeWalk.{MergeWalk}
+use Rattle.leveldb_iter.specs.declared.merging_iter.MergeCore.{MergeCore}
 use Rattle.leveldb_iter.specs.declared.walk.Walk.{Ghosts as WalkGhosts}
 use Rattle.leveldb_files.specs.Stores.Batches.{Each}
 use Rattle.leveldb_files.specs.Stores.Format.{IsTableFault, Meaning}
@@ -37,11 +37,11 @@ pub record ReadsBelow {E C FP K F : Type 0} (store : List ℕ) (first : ℕ)
 
 module _ {E F C FP K : Type 0} (keys : CmpGhosts (InternalKeyCmp C)) (env : EnvGhosts E F)
     (cmp : CmpGhosts C) (filters : FilterGhosts FP) (codings : K → Codings)
-    (walk : WalkGhosts (MergeWalk (InternalKeyCmp C) (VersionIter C)) E (ReadTables E C FP K F))
+    (walk : WalkGhosts (MergeCore (InternalKeyCmp C) (VersionIter C)) E (ReadTables E C FP K F))
   where
     -- A walk that merges the tables of a version's files, by this comparator of user keys.
     pub record MergesTablesOf (inputs : VersionValue C) (compares : C)
-        (it : MergeWalk (InternalKeyCmp C) (VersionIter C)) : Type 0 where
+        (it : MergeCore (InternalKeyCmp C) (VersionIter C)) : Type 0 where
       -- which are in a version's order
       pub in_order : AreInVersionOrder (cmp.cmp inputs.cmp) (new_files_of inputs)
       -- where the tables are there, it is over all their entries, in order
@@ -63,7 +63,7 @@ module _ {E F C FP K : Type 0} (keys : CmpGhosts (InternalKeyCmp C)) (env : EnvG
           (options_in env cmp filters codings world).format meaning) status
       -- over whatever files, such an error of any walk of this type is the fault of a table
       pub fault : (world : E × ReadTables E C FP K F)
-          (any : MergeWalk (InternalKeyCmp C) (VersionIter C))
+          (any : MergeCore (InternalKeyCmp C) (VersionIter C))
           (later : E × ReadTables E C FP K F) (status : Status)
           → walk.fails world any later status → FailsBetween env world later (λ e. IsTableFault
           (options_in env cmp filters codings world).format e.code) status

@@ -24,7 +24,7 @@ use Rattle.leveldb_iter.specs.MergingIter.{AreMerged}
 use Rattle.leveldb_iter.specs.Moves.{IsRefusedFor, LandsAt, SeeksLongKey}
 use Rattle.leveldb_iter.specs.Walk.{KeyOrder, WalkLaws}
 use Rattle.leveldb_iter.specs.declared.db_iter.ViewWalk.{ViewWalk}
-use Rattle.leveldb_iter.specs.declared.merging_iter.MergeWalk.{MergeWalk}
+use Rattle.leveldb_iter.specs.declared.merging_iter.MergeCore.{MergeCore}
 use Rattle.leveldb_iter.specs.declared.moves.Move.{Move}
 use Rattle.leveldb_iter.specs.declared.moves.Step.{Step}
 use Rattle.leveldb_iter.specs.declared.in_memory.InMemory.{InMemory}
@@ -210,8 +210,8 @@ pub record IsMergeToView {E T I C : Type 0} (child : WalkGhosts I E T) (cmp : Cm
 
 -- A walk over the view at a sequence number of what these children are over.
 pub record ViewsMerge {E T I C : Type 0} (child : WalkGhosts I E T) (cmp : CmpGhosts C)
-    (walk : WalkGhosts (ViewWalk (MergeWalk C I)) E T) (compares : C) (children : List I)
-    (sequence : ℕ) (it : ViewWalk (MergeWalk C I)) : Type 0 where
+    (walk : WalkGhosts (ViewWalk (MergeCore C I)) E T) (compares : C) (children : List I)
+    (sequence : ℕ) (it : ViewWalk (MergeCore C I)) : Type 0 where
   -- it is over the view of the entries of the merge, at no position
   pub over : (world : E × T) (order : KeyOrder) (below : List Pair)
       → IsMergeToView child cmp compares children world order below

@@ -22,7 +22,7 @@ use leveldb_env::filter::FilterPolicy;
 use leveldb_env::options::Options;
 use leveldb_iter::db_iter::ViewWalk;
 use leveldb_iter::in_memory::InMemory;
-use leveldb_iter::merging_iter::MergeWalk;
+use leveldb_iter::merging_iter::MergeCore;
 use leveldb_iter::moves::{Move, Step, make_moves};
 use leveldb_iter::walk::Walk;
 use leveldb_mem::memtable::MemtableIterator;
@@ -33,7 +33,7 @@ use std::alloc::Global;
 /// A walk over the view of a store at a sequence number. It borrows the store's memtables and its
 /// version for `'s`; each move borrows the environment and the store's tables.
 pub type StoreView<'s, C> = ViewWalk<
-    MergeWalk<InternalKeyCmp<C>, StoreWalk<'s, C, MemtableIterator<'s, C>>>,
+    MergeCore<InternalKeyCmp<C>, StoreWalk<'s, C, MemtableIterator<'s, C>>>,
 >;
 
 // A walk over a memtable or over tables.
@@ -211,26 +211,26 @@ fn view_over<E, T, C: Cmp + Drop, I: Walk<E, T> + Drop>(
     cmp: C,
     children: Vec<I>,
     sequence: SequenceNumber,
-) -> ViewWalk<MergeWalk<C, I>>
+) -> ViewWalk<MergeCore<C, I>>
     requires { sequence < 2 ^ 56 }
-    ensures { ViewsMerge I.Walk C.Cmp ⟦<ViewWalk<MergeWalk<C, I>> as Walk<E, T>>⟧ cmp
+    ensures { ViewsMerge I.Walk C.Cmp ⟦<ViewWalk<MergeCore<C, I>> as Walk<E, T>>⟧ cmp
         children.items sequence result }
 {
-    let merge = MergeWalk::new::<E, T>(cmp, children);
+    let merge = MergeCore::new::<E, T>(cmp, children);
     ViewWalk::new::<E, T>(alloc, merge, sequence)
 }
 
 // Makes moves of a walk over a view, from where it is on, and returns it.
 fn walk_through<E, T, C: Cmp, I: Walk<E, T>>(
     alloc: Global,
-    view: ViewWalk<MergeWalk<C, I>>,
+    view: ViewWalk<MergeCore<C, I>>,
     env: &mut E,
     tables: &mut T,
     moves: &[Move],
     steps: &mut Vec<Step>,
-) -> ViewWalk<MergeWalk<C, I>>
+) -> ViewWalk<MergeCore<C, I>>
     requires { vec_len steps.old + length moves.now ≤ vec_capacity steps.old }
-    ensures { let walk = ⟦<ViewWalk<MergeWalk<C, I>> as Walk<E, T>>⟧ in
+    ensures { let walk = ⟦<ViewWalk<MergeCore<C, I>> as Walk<E, T>>⟧ in
         (given : List Step) × (steps.new.items ≡ steps.old.items ++ given)
         × MovesAll walk (env.old, tables.old) view moves.now given (env.new, tables.new) result }
 {

@@ -6,7 +6,7 @@ use Rattle.leveldb_base.specs.declared.cmp.internal.InternalKeyCmp.{InternalKeyC
 use Rattle.leveldb_base.specs.declared.error.Status.{Status}
 use Rattle.leveldb_iter.specs.MergingIter.{AreMerged, FailsMerged, FailsOrClashes, IsMergeAt, merged_here}
 use Rattle.leveldb_iter.specs.Walk.{KeyOrder}
-use Rattle.leveldb_iter.specs.declared.merging_iter.MergeWalk.{MergeWalk}
+use Rattle.leveldb_iter.specs.declared.merging_iter.MergeCore.{MergeCore}
 use Rattle.leveldb_iter.specs.declared.walk.Walk.{Ghosts as WalkGhosts}
 use Rattle.leveldb_version.specs.Versions.Version.{VersionValue}
 use Rattle.leveldb_version.specs.Walks.VersionIters.{AreVersionIters}
@@ -16,7 +16,7 @@ use Rattle.leveldb_version.specs.declared.version_iter.VersionIter.{VersionIter}
 -- of the walks has begun.
 pub record MergesTablesOf {E T C : Type 0} (walk : WalkGhosts (VersionIter C) E T)
     (order : CmpGhosts (InternalKeyCmp C)) (cmp : C) (version : VersionValue C)
-    (merge : MergeWalk (InternalKeyCmp C) (VersionIter C)) : Type 0 where
+    (merge : MergeCore (InternalKeyCmp C) (VersionIter C)) : Type 0 where
   -- the walks
   pub walks : List (VersionIter C)
   pub over_tables : AreVersionIters version walks

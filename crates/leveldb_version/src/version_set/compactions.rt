@@ -19,13 +19,13 @@ use leveldb_base::key_types::InternalKey;
 use leveldb_env::env::Env;
 use leveldb_env::filter::FilterPolicy;
 use leveldb_env::options::Options;
-use leveldb_iter::merging_iter::MergeWalk;
+use leveldb_iter::merging_iter::MergeCore;
 use leveldb_iter::walk::Walk;
 use std::alloc::Global;
 
 /// A walk that merges the tables of files, such as those that a compaction takes. It borrows their
 /// metadata for `'c`; each move borrows the environment and the store's open tables.
-pub type InputWalk<'c, C> = MergeWalk<InternalKeyCmp<C>, VersionIter<'c, C>>;
+pub type InputWalk<'c, C> = MergeCore<InternalKeyCmp<C>, VersionIter<'c, C>>;
 
 impl<E: Env, C: UserCmp + Copy + Drop> VersionSet<E, C> {
     /// Whether the current version asks for a compaction, by its score or by reads.
@@ -111,7 +111,7 @@ impl<E: Env, C: UserCmp + Copy + Drop> VersionSet<E, C> {
     {
         let walks = compaction.input_iters(self.files.allocator())?;
         let cmp = InternalKeyCmp(*self.current.ucmp());
-        Ok(MergeWalk::new::<E, ReadTables<'b, E, C, FP, K>>(cmp, walks))
+        Ok(MergeCore::new::<E, ReadTables<'b, E, C, FP, K>>(cmp, walks))
     }
 }
 

@@ -3,7 +3,7 @@ use Rattle.leveldb_base.specs.declared.types.Direction.TheVariants.{Reverse}
 use Rattle.leveldb_iter.specs.Children.{step_from}
 use Rattle.leveldb_iter.specs.declared.children.ChildStep.TheVariants.{PrevOrLast}
 use Rattle.leveldb_iter.proofs.MergingIterLemmas.{ready_each, ready_own, reverse_comes}
-use Rattle.leveldb_iter.proofs.merging_iter.MergeWalk.ready_previous.Goals as goal
+use Rattle.leveldb_iter.proofs.merging_iter.MergeCore.ready_previous.Goals as goal
 
 pub returns-in-Forward : goal.returns-in-Forward
 returns-in-Forward g c = ready_each g.I.Walk g.met.I.Walk.laws g.C.Cmp g.met.C.Cmp.preorder c.args.self.now refl c.step_each.ensures refl refl

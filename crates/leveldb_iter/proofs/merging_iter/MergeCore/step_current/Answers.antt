@@ -1,5 +1,5 @@
 use Rattle.leveldb_iter.proofs.ChildrenLemmas.{one_from_any}
-use Rattle.leveldb_iter.proofs.merging_iter.MergeWalk.step_current.Goals as goal
+use Rattle.leveldb_iter.proofs.merging_iter.MergeCore.step_current.Goals as goal
 
 pub returns-then-self-clause-steps : goal.returns-then-self-clause-steps
 returns-then-self-clause-steps g c = rw c.if-self.true c.step_at_key.ensures

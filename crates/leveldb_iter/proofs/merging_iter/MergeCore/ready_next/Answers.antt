@@ -4,7 +4,7 @@ use Rattle.leveldb_base.specs.declared.types.Direction.TheVariants.{Forward}
 use Rattle.leveldb_iter.specs.Children.{step_from}
 use Rattle.leveldb_iter.specs.declared.children.ChildStep.TheVariants.{First, Next}
 use Rattle.leveldb_iter.proofs.MergingIterLemmas.{ready_each, ready_own, first_comes, forward_comes, placed_none}
-use Rattle.leveldb_iter.proofs.merging_iter.MergeWalk.ready_next.Goals as goal
+use Rattle.leveldb_iter.proofs.merging_iter.MergeCore.ready_next.Goals as goal
 
 pub returns-in-None : goal.returns-in-None
 returns-in-None g c = ready_each g.I.Walk g.met.I.Walk.laws g.C.Cmp g.met.C.Cmp.preorder c.args.self.now refl c.step_each.ensures refl refl

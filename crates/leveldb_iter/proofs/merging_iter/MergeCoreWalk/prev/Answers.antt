@@ -1,7 +1,7 @@
 use Rattle.std.proofs.Common.{refl}
 use Rattle.std.proofs.lemmas.Result.{err_from_is_err_and}
 use Rattle.leveldb_iter.proofs.MergingIterLemmas.{begins_at, always_at, refused, arrives, clashes}
-use Rattle.leveldb_iter.proofs.merging_iter.MergeWalkWalk.prev.Goals as goal
+use Rattle.leveldb_iter.proofs.merging_iter.MergeCoreWalk.prev.Goals as goal
 
 pub returns-in_err-ready_previous-clause-moves : goal.returns-in_err-ready_previous-clause-moves
 returns-in_err-ready_previous-clause-moves g c =

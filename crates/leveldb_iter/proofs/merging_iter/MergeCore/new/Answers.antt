@@ -1,5 +1,5 @@
 use Rattle.std.proofs.Common.{⊎_elim, inl, inr, None, refl}
-use Rattle.leveldb_iter.proofs.merging_iter.MergeWalk.new.Goals as goal
+use Rattle.leveldb_iter.proofs.merging_iter.MergeCore.new.Goals as goal
 
 pub returns-clause-is_at : goal.returns-clause-is_at
 returns-clause-is_at g c = λ world order lists pairs merged. (lists, record { placed = (merged, refl) })

@@ -1,7 +1,7 @@
 use Rattle.std.proofs.Common.{◌∙◌, sym, refl}
 use Rattle.std.proofs.lemmas.Result.{err_from_is_err_and}
 use Rattle.leveldb_iter.proofs.MergingIterLemmas.{SeeksFrom, SeeksOver, begins_key, always_key, refused, chooses, unsought}
-use Rattle.leveldb_iter.proofs.merging_iter.MergeWalkWalk.seek.Goals as goal
+use Rattle.leveldb_iter.proofs.merging_iter.MergeCoreWalk.seek.Goals as goal
 
 pub returns-in_err-ready_key : goal.returns-in_err-ready_key
 returns-in_err-ready_key g c =

@@ -1,6 +1,6 @@
 use Rattle.std.proofs.lemmas.Result.{err_from_is_err_and}
 use Rattle.leveldb_iter.proofs.MergingIterLemmas.{begins_over, always_over, refused, chooses}
-use Rattle.leveldb_iter.proofs.merging_iter.MergeWalkWalk.seek_to_last.Goals as goal
+use Rattle.leveldb_iter.proofs.merging_iter.MergeCoreWalk.seek_to_last.Goals as goal
 
 pub returns-in_err-ready_last : goal.returns-in_err-ready_last
 returns-in_err-ready_last g c =
