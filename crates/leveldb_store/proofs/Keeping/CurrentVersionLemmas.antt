@@ -36,12 +36,12 @@ current_level order cmp set version range is =
     sym (output_level_alike order range set.full.added (new_files_of version) is.same_files)
 
 -- its comparator stays, whether an edit is logged or not
-pub logged_cmp : {C : Type 0} {order : List ℕ → List ℕ → Ordering} {edit : Edit}
-    {old new : VersionValue C} (result : Result (Unit {0}) Status)
+pub logged_cmp : {C : Type 0} (order : List ℕ → List ℕ → Ordering) (edit : Edit)
+    (old new : VersionValue C) (result : Result (Unit {0}) Status)
     → OnOk result (IsVersionAfter order edit old new) → OnErr result (new ≡ old)
     → new.cmp ≡ old.cmp
-logged_cmp (Ok done) after same = after.same_cmp
-logged_cmp {C} (Err status) after same = ap (λ (v : VersionValue C). v.cmp) same
+logged_cmp order edit old new (Ok done) after same = after.same_cmp
+logged_cmp {C} order edit old new (Err status) after same = ap (λ (v : VersionValue C). v.cmp) same
 
 -- ---- files of lower numbers
 

@@ -26,7 +26,7 @@ invariant_of-self g c =
       kept.made,
       subst (λ n. AreUpTo n c.self.inside.mem.kept.entries) (sym kept.last) c.self.invariant.6,
       c.self.invariant.7,
-      logged_cmp c.log_and_apply.result c.log_and_apply.ensures.ok c.log_and_apply.ensures.err ∙ c.self.invariant.8,
+      logged_cmp _ _ _ _ c.log_and_apply.result c.log_and_apply.ensures.ok c.log_and_apply.ensures.err ∙ c.self.invariant.8,
       logged_given c.log_and_apply.result appends c.self.invariant.9 (rw (← c.self.view_is) at c.requires.given),
       logged_levels (g.C.Cmp.cmp c.self.inside.cmp) c.log_and_apply.result appends c.self.invariant.10
           (levels (current_by g.C.Cmp c.self.invariant.8 c.log_and_apply.ensures.current)),
