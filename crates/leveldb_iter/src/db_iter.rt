@@ -78,6 +78,7 @@ impl<M> ViewWalk<M> {
     }
 
     // What the entry is that the walk below is at. The key of a deletion is kept.
+    #[inline(always)]
     fn look<E, T>(&mut self, skipping: bool) -> Result<Seen>
     where
         M: Walk<E, T>,
@@ -107,6 +108,7 @@ impl<M> ViewWalk<M> {
     }
 
     // Keeps the user's key of the entry that the walk below is at.
+    #[inline(always)]
     fn keep_key<E, T>(&mut self) -> Result<()>
     where
         M: Walk<E, T>,
@@ -125,6 +127,7 @@ impl<M> ViewWalk<M> {
 
     // Goes over an entry that isn't shown. Returns whether there is a key to skip from there on, or
     // none where the scan ends.
+    #[inline(always)]
     fn step_next<E, T>(
         &mut self,
         env: &mut E,
@@ -160,6 +163,7 @@ impl<M> ViewWalk<M> {
     }
 
     // Goes on, from the entry that the walk below is at, to one that is shown.
+    #[inline(always)]
     fn find_next<E, T>(&mut self, env: &mut E, tables: &mut T, skipping: bool) -> Result<()>
     where
         M: Walk<E, T>,
@@ -185,6 +189,7 @@ impl<M> ViewWalk<M> {
 
     // Goes to the entry after the pair that it is at, and from no position to the first entry.
     // Returns whether the key of the pair is to be skipped.
+    #[inline(always)]
     fn leave<E, T>(&mut self, env: &mut E, tables: &mut T) -> Result<bool>
     where
         M: Walk<E, T>,
