@@ -234,7 +234,7 @@ module _ {E C F : Type 0} (order : CmpGhosts (InternalKeyCmp C)) (env : EnvGhost
                   (subst (λ (o : List ℕ → List ℕ → Ordering).
                   HasIndex codings o (bytes_of found) (length (bytes_of found))
                   (map index_pair table.parts) table.meta table.index)
-                  (sym order_is) (tables_indexed table.tables_made))
+                  (sym order_is) (tables_indexed table.tabled))
 
           -- it is, and there is a walk over it
           opened : {it : FoundTable E C F} (to : E)

@@ -150,7 +150,7 @@ module _ {E C F : Type 0} (order : CmpGhosts (InternalKeyCmp C)) (env : EnvGhost
               (is : IsStoreTable (Decodes codings) (cmp.cmp compares) (λ name. None) bytes pairs)
             where
               lines_are : lines_of table ≡ map index_pair is.parts
-              lines_are = (index_read is.tables_made (subst (λ (o : List ℕ → List ℕ → Ordering).
+              lines_are = (index_read is.tabled (subst (λ (o : List ℕ → List ℕ → Ordering).
                   HasIndex codings o bytes (length bytes) (lines_of table) table.footer.meta_index
                   table.footer.index) (order_is compares) (subst (λ n. HasIndex codings
                   (order.cmp (record { 0 = compares })) bytes n (lines_of table)

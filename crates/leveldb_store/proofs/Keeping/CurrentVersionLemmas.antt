@@ -1,18 +1,19 @@
 -- The version of a store: the level that it picks, files of lower numbers, and what calls make of
 -- it.
-use Rattle.std.specs.Prelude.{◌&&◌, All, OnErr}
-use Rattle.std.proofs.Common.{◌≡◌, ◌∙◌, ◌∷◌, ◌==◌, ◌<◌, Bool, true, false, cond, List, [], Option, Result, ℕ, ap, arith, not, refl, subst, sym}
+use Rattle.std.specs.Prelude.{◌&&◌, All, OnErr, OnOk}
+use Rattle.std.proofs.Common.{◌≡◌, ◌∙◌, ◌∷◌, ◌==◌, ◌<◌, Bool, true, false, cond, List, [], Option, Result, Ok, Err, ℕ, ap, arith, not, refl, subst, sym}
 use Rattle.std.proofs.lemmas.Bool.Decides.{nat_tests}
 use Rattle.std.proofs.lemmas.List.Elements.{All-head, All-tail}
 use Rattle.std.proofs.lemmas.Result.{on_err_weaker}
 use Rattle.std.specs.declared.cmp.Ordering.{Ordering}
 use Rattle.leveldb_base.specs.declared.error.Status.{Status}
 use Rattle.leveldb_base.specs.declared.cmp.Cmp.{Ghosts as CmpGhosts}
+use Rattle.leveldb_version.specs.Versions.Change.{IsVersionAfter}
 use Rattle.leveldb_version.specs.Sets.CurrentVersion.{IsCurrent, VersionsValue}
 use Rattle.leveldb_version.specs.Edits.FullEdit.{files_without}
 use Rattle.leveldb_files.specs.Levels.Overlap.{UserRange, output_level}
 use Rattle.leveldb_version.specs.Versions.Version.{VersionValue, charged, new_files_of}
-use Rattle.leveldb_files.specs.Edits.Edit.{LevelFile, NewFile}
+use Rattle.leveldb_files.specs.Edits.Edit.{Edit, LevelFile, NewFile}
 use Rattle.leveldb_files.specs.Edits.VersionSet.{is_same_file, level_file}
 use Rattle.leveldb_version.specs.Sets.VersionSetValue.{VersionSetValue}
 use Rattle.leveldb_store.proofs.Keeping.LevelForLemmas.{output_level_alike}
@@ -33,6 +34,14 @@ pub current_level : {C : Type 0} (order : List ℕ → List ℕ → Ordering) (c
     → output_level order range (new_files_of version) ≡ output_level order range set.full.added
 current_level order cmp set version range is =
     sym (output_level_alike order range set.full.added (new_files_of version) is.same_files)
+
+-- its comparator stays, whether an edit is logged or not
+pub logged_cmp : {C : Type 0} (order : List ℕ → List ℕ → Ordering) (edit : Edit)
+    (old new : VersionValue C) (result : Result (Unit {0}) Status)
+    → OnOk result (IsVersionAfter order edit old new) → OnErr result (new ≡ old)
+    → new.cmp ≡ old.cmp
+logged_cmp order edit old new (Ok done) after same = after.same_cmp
+logged_cmp {C} order edit old new (Err status) after same = ap (λ (v : VersionValue C). v.cmp) same
 
 -- ---- files of lower numbers
 

@@ -243,7 +243,7 @@ module _ (cmp : List ℕ → List ℕ → Ordering) (meaning : Meaning) where
       metas = table.metas;
       meta = table.meta;
       index = table.index;
-      tables_made = table.tables_made;
+      tabled = table.tabled;
       accepted = table.accepted;
       sorted = table.sorted;
       pairs_are = table.pairs_are;

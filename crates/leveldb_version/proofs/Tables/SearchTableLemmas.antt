@@ -57,7 +57,7 @@ module _ {C FP F : Type 0} (order : CmpGhosts (InternalKeyCmp C)) (by : TableOpt
     {bytes : List ℕ} {meaning : Meaning} (agrees : Agrees by.format meaning) {pairs : List Pair} (is : IsTableOf by.format.order meaning bytes pairs) where
   module _ (table : StoreTable C FP F) (opened : IsOpenedWith by table bytes) where
     lines_are : lines_of table ≡ map index_pair is.parts
-    lines_are = (index_read is.tables_made (opens_more agrees opened.opened).indexed).0
+    lines_are = (index_read is.tabled (opens_more agrees opened.opened).indexed).0
 
     -- a look-up goes by the lines of its data blocks
     along : (out : Outcome) → LookUpInTable order by.format.codings (key_matches by.format) table key bytes out

@@ -111,7 +111,7 @@ module _ {E C FP F : Type 0} (order : CmpGhosts (InternalKeyCmp C)) (env : EnvGh
       has_parts = subst (λ ps. HasParts meaning.codings (internal_accepts any_user_key) (key_order by.format) one.bytes ps) parted (parts_there is)
 
       lines_are : lines_of table ≡ map index_pair one.parts
-      lines_are = (index_read is.tables_made (opens_more agrees opened.opened).indexed).0 ∙ ap (λ (ps : List Part). map index_pair ps) parted
+      lines_are = (index_read is.tabled (opens_more agrees opened.opened).indexed).0 ∙ ap (λ (ps : List Part). map index_pair ps) parted
 
       walk_indexed : (o : Option (TablePlace (InternalKeyCmp C))) (from : TablePlace (InternalKeyCmp C)) → IsIndexedFor order (key_order by.format) one.parts o → IsWalkIn table o from → IsIndexed order (key_order by.format) one.parts from
       walk_indexed None from at starts = record { lines = starts.lines ∙ lines_are; ordered = ap order.cmp starts.ordered ∙ ap order.cmp opened.ordered.1 ∙ order_is }

@@ -114,7 +114,6 @@ impl<E: Env, C: UserCmp + Copy + Drop> VersionSet<E, C> {
         ensures ok { OnOk result (IsVersionAfter (C.cmp self.old.current.cmp) (edit_of edit)
             self.old.current self.new.current) }
         ensures err { OnErr result (self.new.current ≡ self.old.current) }
-        ensures cmp { self.new.current.cmp ≡ self.old.current.cmp }
     {
         let alloc = self.files.alloc;
         if self.files.is_broken() {

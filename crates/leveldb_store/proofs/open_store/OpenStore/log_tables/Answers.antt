@@ -4,7 +4,7 @@ use Rattle.leveldb_base.specs.History.{AreUpTo}
 use Rattle.leveldb_version.specs.Versions.Change.{IsVersionAfter}
 use Rattle.leveldb_version.specs.Sets.LogEdit.{LogEditResult}
 use Rattle.leveldb_version.specs.Edits.VersionEdit.{edit_of}
-use Rattle.leveldb_store.proofs.Keeping.CurrentVersionLemmas.{current_by, unlogged_store}
+use Rattle.leveldb_store.proofs.Keeping.CurrentVersionLemmas.{current_by, logged_cmp, unlogged_store}
 use Rattle.leveldb_store.proofs.Writing.Level0TableLemmas.{KeepsManifest, in_use_of, keeps_manifest, logged_given, logged_levels, own_again}
 use Rattle.leveldb_store.proofs.open_store.OpenStore.log_tables.Goals as goal
 
@@ -26,7 +26,7 @@ invariant_of-self g c =
       kept.made,
       subst (λ n. AreUpTo n c.self.inside.mem.kept.entries) (sym kept.last) c.self.invariant.6,
       c.self.invariant.7,
-      c.log_and_apply.ensures.cmp ∙ c.self.invariant.8,
+      logged_cmp _ _ _ _ c.log_and_apply.result c.log_and_apply.ensures.ok c.log_and_apply.ensures.err ∙ c.self.invariant.8,
       logged_given c.log_and_apply.result appends c.self.invariant.9 (rw (← c.self.view_is) at c.requires.given),
       logged_levels (g.C.Cmp.cmp c.self.inside.cmp) c.log_and_apply.result appends c.self.invariant.10
           (levels (current_by g.C.Cmp c.self.invariant.8 c.log_and_apply.ensures.current)),
