@@ -228,6 +228,7 @@ impl<M> ViewWalk<M> {
 
     // Takes the entry that the walk below is at for the pair to be shown, and returns whether one
     // is taken. A deletion takes it back. An entry of another key ends the search.
+    #[inline(always)]
     fn take<E, T>(&mut self, taken: bool) -> Result<Option<bool>>
     where
         M: Walk<E, T>,
@@ -264,6 +265,7 @@ impl<M> ViewWalk<M> {
     }
 
     // Goes back over an entry. Returns whether a pair is taken, or none where the search ends.
+    #[inline(always)]
     fn step_back<E, T>(&mut self, env: &mut E, tables: &mut T, taken: bool) -> Result<Option<bool>>
     where
         M: Walk<E, T>,
@@ -291,6 +293,7 @@ impl<M> ViewWalk<M> {
 
     // Goes back, from the entry that the walk below is at, to before all entries of the last key
     // that is shown up to it.
+    #[inline(always)]
     fn find_previous<E, T>(&mut self, env: &mut E, tables: &mut T) -> Result<()>
     where
         M: Walk<E, T>,
@@ -347,6 +350,7 @@ impl<M> ViewWalk<M> {
     }
 
     // Goes to before all entries of the key of the pair that it is at.
+    #[inline(always)]
     fn leave_back<E, T>(&mut self, env: &mut E, tables: &mut T, direction: Direction) -> Result<()>
     where
         M: Walk<E, T>,

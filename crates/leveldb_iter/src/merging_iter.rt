@@ -151,6 +151,7 @@ impl<C: Cmp, I> MergeCore<C, I> {
     }
 
     // The first half of a move from a pair to the one before.
+    #[inline(always)]
     fn ready_previous<E, T>(&mut self, env: &mut E, tables: &mut T, i: usize) -> Result<()>
     where
         I: Walk<E, T>,
@@ -228,6 +229,7 @@ impl<E, T, C: Cmp, I: Walk<E, T>> Walk<E, T> for MergeCore<C, I> {
         Ok(Walk::<E, T>::valid(self))
     }
 
+    #[inline(always)]
     fn prev(&mut self, env: &mut E, tables: &mut T) -> Result<bool> {
         let Some(i) = self.current else {
             return Ok(false);
