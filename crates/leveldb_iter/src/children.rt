@@ -60,6 +60,7 @@ pub(crate) fn step_each<E, T, I: Walk<E, T>>(
 }
 
 // One child makes a step.
+#[inline(always)]
 pub(crate) fn step_one<E, T, I: Walk<E, T>>(
     children: &mut Vec<I>,
     env: &mut E,
@@ -74,6 +75,7 @@ pub(crate) fn step_one<E, T, I: Walk<E, T>>(
     step_child(&mut children[i], env, tables, step)
 }
 
+#[inline(always)]
 fn step_child<E, T, I: Walk<E, T>>(
     child: &mut I,
     env: &mut E,
@@ -154,6 +156,7 @@ fn head<'x, E, T, I: Walk<E, T>>(children: &'x Vec<I>, k: usize) -> Option<(&'x 
 
 // The child that is at the first pair in this direction, and how the others are to that pair, or
 // none where none is at a pair.
+#[inline(always)]
 pub(crate) fn best_of<'x, E, T, C: Cmp, I: Walk<E, T>>(
     cmp: &C,
     direction: Direction,

@@ -78,6 +78,7 @@ impl<M> ViewWalk<M> {
     }
 
     // What the entry is that the walk below is at. The key of a deletion is kept.
+    #[inline(always)]
     fn look<E, T>(&mut self, skipping: bool) -> Result<Seen>
     where
         M: Walk<E, T>,
@@ -107,6 +108,7 @@ impl<M> ViewWalk<M> {
     }
 
     // Keeps the user's key of the entry that the walk below is at.
+    #[inline(always)]
     fn keep_key<E, T>(&mut self) -> Result<()>
     where
         M: Walk<E, T>,
@@ -125,6 +127,7 @@ impl<M> ViewWalk<M> {
 
     // Goes over an entry that isn't shown. Returns whether there is a key to skip from there on, or
     // none where the scan ends.
+    #[inline(always)]
     fn step_next<E, T>(
         &mut self,
         env: &mut E,
@@ -160,6 +163,7 @@ impl<M> ViewWalk<M> {
     }
 
     // Goes on, from the entry that the walk below is at, to one that is shown.
+    #[inline(always)]
     fn find_next<E, T>(&mut self, env: &mut E, tables: &mut T, skipping: bool) -> Result<()>
     where
         M: Walk<E, T>,
@@ -185,6 +189,7 @@ impl<M> ViewWalk<M> {
 
     // Goes to the entry after the pair that it is at, and from no position to the first entry.
     // Returns whether the key of the pair is to be skipped.
+    #[inline(always)]
     fn leave<E, T>(&mut self, env: &mut E, tables: &mut T) -> Result<bool>
     where
         M: Walk<E, T>,
@@ -223,6 +228,7 @@ impl<M> ViewWalk<M> {
 
     // Takes the entry that the walk below is at for the pair to be shown, and returns whether one
     // is taken. A deletion takes it back. An entry of another key ends the search.
+    #[inline(always)]
     fn take<E, T>(&mut self, taken: bool) -> Result<Option<bool>>
     where
         M: Walk<E, T>,
@@ -259,6 +265,7 @@ impl<M> ViewWalk<M> {
     }
 
     // Goes back over an entry. Returns whether a pair is taken, or none where the search ends.
+    #[inline(always)]
     fn step_back<E, T>(&mut self, env: &mut E, tables: &mut T, taken: bool) -> Result<Option<bool>>
     where
         M: Walk<E, T>,
@@ -286,6 +293,7 @@ impl<M> ViewWalk<M> {
 
     // Goes back, from the entry that the walk below is at, to before all entries of the last key
     // that is shown up to it.
+    #[inline(always)]
     fn find_previous<E, T>(&mut self, env: &mut E, tables: &mut T) -> Result<()>
     where
         M: Walk<E, T>,
@@ -342,6 +350,7 @@ impl<M> ViewWalk<M> {
     }
 
     // Goes to before all entries of the key of the pair that it is at.
+    #[inline(always)]
     fn leave_back<E, T>(&mut self, env: &mut E, tables: &mut T, direction: Direction) -> Result<()>
     where
         M: Walk<E, T>,

@@ -25,6 +25,7 @@ pub(crate) enum Seen {
 type EntryRead<'a> = (ValueType, SequenceNumber, UserKey<'a>, &'a [u8]);
 
 // The entry that the walk is at, if it is at a pair, whose key is then to have a tag.
+#[inline(always)]
 pub(crate) fn entry_at<E, T, M: Walk<E, T>>(
     alloc: Global,
     walk: &M,
@@ -55,6 +56,7 @@ pub(crate) fn with_entry(count: u64, user: UserKey<'_>, value: &[u8]) -> u64
 }
 
 // Replaces the bytes.
+#[inline(always)]
 pub(crate) fn keep(target: &mut Vec<u8>, bytes: &[u8]) -> Result<()>
     ensures ok { IfOk result (λ _. target.new.items ≡ bytes.now) }
     ensures cause { IfErr result IsOutOfMemory }

@@ -73,6 +73,7 @@ impl<C: Cmp, I> MergeCore<C, I> {
     // The second half of each move: makes the child that is at the first pair in this direction the
     // current one, if one is at a pair. Fails where another is at a different pair of its key, and
     // then none is the current one.
+    #[inline(always)]
     fn pick_current<E, T>(&mut self, direction: Direction) -> Result<()>
     where
         I: Walk<E, T>,
@@ -104,6 +105,7 @@ impl<C: Cmp, I> MergeCore<C, I> {
     }
 
     // The current child makes a step, and with it the others that are at its pair.
+    #[inline(always)]
     fn step_current<E, T>(
         &mut self,
         env: &mut E,
@@ -129,6 +131,7 @@ impl<C: Cmp, I> MergeCore<C, I> {
     }
 
     // The first half of a move to the next pair: children make steps, and none is the current one.
+    #[inline(always)]
     fn ready_next<E, T>(&mut self, env: &mut E, tables: &mut T) -> Result<()>
     where
         I: Walk<E, T>,
@@ -148,6 +151,7 @@ impl<C: Cmp, I> MergeCore<C, I> {
     }
 
     // The first half of a move from a pair to the one before.
+    #[inline(always)]
     fn ready_previous<E, T>(&mut self, env: &mut E, tables: &mut T, i: usize) -> Result<()>
     where
         I: Walk<E, T>,
@@ -218,12 +222,14 @@ impl<E, T, C: Cmp, I: Walk<E, T>> Walk<E, T> for MergeCore<C, I> {
 
     ghost keeps = { I.keeps };
 
+    #[inline(always)]
     fn advance(&mut self, env: &mut E, tables: &mut T) -> Result<bool> {
         self.ready_next(env, tables)?;
         self.pick_current::<E, T>(Direction::Forward)?;
         Ok(Walk::<E, T>::valid(self))
     }
 
+    #[inline(always)]
     fn prev(&mut self, env: &mut E, tables: &mut T) -> Result<bool> {
         let Some(i) = self.current else {
             return Ok(false);
@@ -256,6 +262,7 @@ impl<E, T, C: Cmp, I: Walk<E, T>> Walk<E, T> for MergeCore<C, I> {
         self.current = None;
     }
 
+    #[inline(always)]
     fn current(&self) -> Option<(&[u8], &[u8])> {
         match self.current {
             None => None,
@@ -263,6 +270,7 @@ impl<E, T, C: Cmp, I: Walk<E, T>> Walk<E, T> for MergeCore<C, I> {
         }
     }
 
+    #[inline(always)]
     fn valid(&self) -> bool {
         match self.current {
             None => false,

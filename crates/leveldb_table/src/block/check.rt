@@ -65,7 +65,7 @@ fn check_empty(points: &[u8]) -> Option<bool>
 }
 
 // Makes it the entry's key.
-#[inline]
+#[inline(always)]
 fn put_key(next: &mut Vec<u8>, key: &[u8], entry: &EntryParts<'_>) -> Result<()>
     ensures ok { OnOk result
         (next.new.items ≡ take entry.now.shared key.now ++ entry.now.rest.now) }
@@ -81,6 +81,7 @@ fn put_key(next: &mut Vec<u8>, key: &[u8], entry: &EntryParts<'_>) -> Result<()>
 // Makes the entry's key the last one, and returns whether the entry may be after the key before
 // it. A key that shares nothing is compared where it is in the block; any other is put together in
 // `spare`, which then changes places with `key`.
+#[inline(always)]
 fn take_key<C: Cmp>(
     cmp: &C,
     first: bool,

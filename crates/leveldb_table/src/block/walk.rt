@@ -88,7 +88,7 @@ impl BlockCore {
     }
 
     // Moves to the entry that begins at `start`, and returns where it ends.
-    #[inline]
+    #[inline(always)]
     fn load<C: Cmp>(&mut self, block: &Block<C>, start: usize) -> Result<usize>
         requires { CanLoad block.now.entries self.old.key start }
         ensures ok { IfOk result (λ next. IsEntryBetween block.now.contents block.now.entries
