@@ -85,6 +85,13 @@ IsFault args input fault.TooLong = IsInputFault input fault.TooLong
 IsFault args input (fault.Unread status) = IsInputFault input (fault.Unread status)
 IsFault args input (fault.Refused status) = Unit {0}
 
+-- The program stopped for such a fault; and where the status is 2, it left the environment and its
+-- output as they were.
+abbrev pub StopsFor : {E O : Type 0} → List (String Global) → Option (List ℕ) → E → O → E → O
+    → Fault → Type 0
+StopsFor args input from out to written fault = IsFault args input fault
+    × (status_of fault ≡ 2 → (to ≡ from) × (written ≡ out))
+
 -- the program wasn't asked rightly
 abbrev pub IsMisasked : List (String Global) → Option (List ℕ) → Type 0
 IsMisasked args input = (why : Fault) × (status_of why ≡ 2) × IsFault args input why
