@@ -25,7 +25,7 @@ has_middle separator a c d e =
     let P : List ℕ → Type 0 = λ xs. Contains xs separator in
     subst P (sym e) (Contains-append_right c (separator ∷ d) separator (0, omega arith, refl))
 
--- what stands before the first of a byte in a text, and behind it, is one alone
+-- what is before the first of a byte in a text, and after it, is one alone
 pub same_front : (separator : ℕ) (a c b d : List ℕ) → (Contains a separator → ⊥) → (Contains c separator → ⊥)
     → a ++ separator ∷ b ≡ c ++ separator ∷ d → (a ≡ c) × (b ≡ d)
 same_front separator [] [] b d no_a no_c e = (refl, ap tail_of e)
