@@ -370,7 +370,7 @@ words_more {T = T} spell text words word more before one is parted spelled =
     ∙ sym (append_assoc (words_text spell before) (codes " " ++ spell one) (rest_text more))
     ∙ ap (λ (xs : List ℕ). xs ++ rest_text more) (flat_map_more (λ (i : T). codes " " ++ spell i) [] before one)
 
--- the first of what words spell, and the others
+-- the first of what words encode, and the others
 pub record FirstOf {T : Type 0} (spell : T → List ℕ) (HasBytes : T → Type 0) (word rest : List ℕ) : Type 0 where
   pub one : T
   pub others : List T

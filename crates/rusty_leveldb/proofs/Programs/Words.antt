@@ -55,7 +55,7 @@ no_separator separator (byte ∷ bytes) h no_dot no_digit found =
     let is : is_hex_digit separator ≡ true = subst P found.2 (digits found.0 separator found.1) in
     cc (sym no_digit ∙ is)
 
--- a full stop spells no bytes
+-- a full stop encodes no bytes
 pub dot_spells : (word bytes : List ℕ) → word ≡ codes "." → IsWord word bytes → [] ≡ bytes
 dot_spells word [] dot is = refl
 dot_spells word (byte ∷ bytes) dot is =
@@ -63,7 +63,7 @@ dot_spells word (byte ∷ bytes) dot is =
     let twice = length-encode_with lower_digits (byte ∷ bytes) in
     absurd (omega (arith, long, twice))
 
--- what another word spells is what its digits are
+-- what another word encodes is what its digits are
 spelled : (word bytes : List ℕ) → word ≢ codes "." → IsWord word bytes → decode_of word ≡ Ok bytes
 spelled word [] no_dot is = absurd (no_dot is.1)
 spelled word (byte ∷ bytes) no_dot is = ap decode_of is.1 ∙ decode_of-encode_lower (byte ∷ bytes) is.0

@@ -96,7 +96,7 @@ StopsFor args input from out to written fault = IsFault args input fault
 abbrev pub IsMisasked : List (String Global) → Option (List ℕ) → Type 0
 IsMisasked args input = (why : Fault) × (status_of why ≡ 2) × IsFault args input why
 
--- the input spells these commands in at most 2^26 bytes, where its bytes are known
+-- the input is a text of these commands of at most 2^26 bytes, where its bytes are known
 abbrev pub IsInput : Option (List ℕ) → List Command → Type 0
 IsInput input commands = (text : List ℕ) × IfSome input (λ bytes. text ≡ bytes)
     × (length text ≤ 2 ^ 26) × IsScript text commands
