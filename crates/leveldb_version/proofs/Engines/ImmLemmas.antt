@@ -4,17 +4,14 @@ use Rattle.leveldb_base.proofs.NamesLemmas.{made_name, one_reading}
 use Rattle.leveldb_base.specs.History.{Entry}
 use Rattle.leveldb_base.specs.Names.{IsFileName, file_name}
 use Rattle.leveldb_base.specs.Types.{Pair}
-use Rattle.leveldb_base.specs.declared.types.FileType.{FileType}
-use Rattle.leveldb_base.specs.declared.types.FileType.TheVariants.{Descriptor, Log, Table}
-use Rattle.leveldb_env.specs.Env.{AreBytes, Files, bytes_of, in_folder}
-use Rattle.leveldb_mem.specs.Log.Writer.{after_frame, frame}
+use Rattle.leveldb_base.specs.declared.types.FileType.TheVariants.{Log}
+use Rattle.leveldb_env.specs.Env.{AreBytes, Files, bytes_of}
 use Rattle.leveldb_files.proofs.Stores.BatchesLemmas.{each_one}
+use Rattle.leveldb_version.proofs.Sets.EditLoggedLemmas.{edits_are_logged}
 use Rattle.leveldb_version.proofs.Sets.EditRecordLemmas.{KeysAreBytes, tables_edit_fits, tables_record_bytes}
-use Rattle.leveldb_version.proofs.Sets.EditTrackedLemmas.{after, appended_tracked, same_of}
 use Rattle.leveldb_files.proofs.Levels.LevelsLemmas.{adding_keeps_order, no_common}
 use Rattle.leveldb_version.proofs.Engines.LogTablesLemmas.{TakesLogs, same_place, takes_logs}
 use Rattle.leveldb_version.proofs.Engines.LogsBelowLemmas.{in_logs, log_of}
-use Rattle.leveldb_version.proofs.Sets.LogKeepsLemmas.{appended_edits_keep}
 use Rattle.leveldb_files.proofs.Stores.LogsLemmas.{PartsAt, parts_at}
 use Rattle.leveldb_files.proofs.Stores.OneStoreLemmas.{one_entry, tables_in}
 use Rattle.leveldb_files.proofs.Histories.SafeLemmas.{some_is}
@@ -22,21 +19,21 @@ use Rattle.leveldb_version.proofs.Sets.TracksLemmas.{NumbersAre, numbers_are}
 use Rattle.leveldb_files.specs.Stores.Batches.{Each}
 use Rattle.leveldb_files.specs.Stores.Contents.{Store}
 use Rattle.leveldb_files.specs.Levels.Levels.{LevelOrder, LiveTable, table_entries}
-use Rattle.leveldb_version.specs.Sets.LogEdit.{AppendingAndSyncing, edit_record, set_appended, with_bytes_kept, written_edit}
+use Rattle.leveldb_version.specs.Sets.LogEdit.{edit_record, written_edit}
 use Rattle.leveldb_files.specs.Stores.Paths.{table_path}
 use Rattle.leveldb_files.specs.Stores.Store.{HasTable, IsFirstKey, IsInternalPair, IsManagedBy, OneTableReading, ReplayedLog, SameEntries, log_entries}
-use Rattle.leveldb_files.specs.Steps.StoreSteps.{AreLogsBelow, EditRefines, HasAddedTables, IsKept, IsWritable, KeepsHistory, Refines}
-use Rattle.leveldb_version.specs.Sets.Tracks.{IsInUse}
+use Rattle.leveldb_files.specs.Steps.StoreSteps.{AreLogsBelow, HasAddedTables, IsKept}
 use Rattle.leveldb_files.specs.Edits.Edit.{Edit, FieldFits, IsEncodable, NewFile, adds}
 use Rattle.leveldb_files.specs.Edits.VersionSet.{is_same_file, level_file, live_after}
-use Rattle.leveldb_version.specs.Sets.VersionSetValue.{OpenManifest, VersionSetValue}
-use Rattle.leveldb_version.specs.Engines.Writing.{EngineMemory, IsTrackedBy, IsWrittenBy, table_edit}
+use Rattle.leveldb_version.specs.Sets.VersionSetValue.{VersionSetValue}
+use Rattle.leveldb_version.specs.Compactions.CompactionEdit.{EditIsLogged}
+use Rattle.leveldb_version.specs.Engines.Writing.{EngineMemory, IsWrittenBy, table_edit}
 use Rattle.leveldb_version.specs.Engines.WritingLaws.{HasImm, TablesAreInRange, ImmBecomesTableByEdits, ImmMayGoToLevelZero}
 use Rattle.std.proofs.Common.{◌++◌, ◌<◌, ◌^◌, ◌∙◌, ◌∷◌, ◌≡◌, ◌≤◌, ◌⊎◌, Bool, List, [], ap, append-nil, arith, false, inl, inr, refl, subst, sym, true, ℕ, ⊎_elim}
 use Rattle.std.proofs.lemmas.Bool.{cases_lt}
 use Rattle.std.proofs.lemmas.List.Elements.{Contains-append_cases, Contains-append_left}
 use Rattle.std.specs.Cmp.{IsTotalOrder}
-use Rattle.std.specs.Prelude.{◌≢◌, Contains}
+use Rattle.std.specs.Prelude.{Contains}
 use Rattle.std.specs.declared.cmp.Ordering.{Ordering}
 
 -- ---- entries of logs
@@ -240,119 +237,10 @@ module _ (store : List ℕ) (cmp : List ℕ → List ℕ → Ordering)
         (only_one table t c) (apart other d))
         levels p.front taken wrote
 
-    exact : EditRefines store cmp IsTableOf memory.set.last_sequence files edits edit
-    exact = takes.refines memory.set.last_sequence (omega arith)
-
-    imm_edit_keeps : AreBytes (edit_record memory.set plain)
-        → (bound : ℕ) → memory.set.last_sequence ≤ bound → (now : Files)
-        → AppendingAndSyncing w.manifest.path
-        (frame w.manifest.writer (edit_record memory.set plain)) files now
-        → KeepsHistory store cmp IsTableOf allowed bound files now
-    imm_edit_keeps bytes bound most now passes =
-        appended_edits_keep store cmp IsTableOf allowed files edits memory.set plain
-        w.tracked.tracks w.tracked.store_is w.tracked.bytes can bytes bound
-        (takes.refines bound most) w.manifest w.is_in_use now passes
-
-    -- ---- the store after it
-
-    abbrev text : List ℕ
-    text = edit_record memory.set plain
-
-    abbrev now : Files
-    now = with_bytes_kept w.manifest.path (frame w.manifest.writer text) files
-
-    abbrev set_then : VersionSetValue
-    set_then = set_appended w.manifest memory.set plain
-
-    abbrev manifest_then : OpenManifest
-    manifest_then = record w.manifest { writer = after_frame w.manifest.writer text }
-
-    module _ (bytes : AreBytes text) where
-      abbrev tracked_then : IsTrackedBy store cmp IsTableOf now then set_then
-      tracked_then = appended_tracked store cmp IsTableOf files edits memory.set w.tracked
-          w.tracked.contents m w.reached plain can exact w.manifest w.is_in_use bytes
-
-      refined : Refines memory.set.last_sequence w.tracked.contents tracked_then.contents
-      refined = (after store cmp IsTableOf files edits memory.set w.tracked w.tracked.contents m
-          w.reached plain can exact w.manifest w.is_in_use bytes).2
-
-      same : (name : List ℕ) (k : ℕ) (kind : FileType) → IsFileName name k kind
-          → Descriptor ≢ kind → now (in_folder store name) ≡ files (in_folder store name)
-      same = same_of store cmp IsTableOf files edits memory.set w.tracked w.tracked.contents m
-          w.reached plain can exact w.manifest w.is_in_use bytes
-
-      same_log : (name : List ℕ) (k : ℕ) → IsFileName name k Log
-          → now (in_folder store name) ≡ files (in_folder store name)
-      same_log name k is = same name k Log is (λ e. cc)
-
-      same_table : (k : ℕ) → k < 2 ^ 64
-          → now (table_path store k) ≡ files (table_path store k)
-      same_table k k_fits =
-          same (file_name Table k) k Table (made_name Table k k_fits) (λ e. cc)
-
-      in_use_then : IsInUse store now then manifest_then
-      in_use_then = subst (λ s. IsInUse s now then manifest_then) w.tracked.store_is
-          (tracked_then.tracks.used manifest_then refl)
-
-      abbrev writable_then : IsWritable store now then
-      writable_then = record {
-        has_edits = in_use_then.opened.has_edits;
-        current = in_use_then.opened.current_kept;
-        manifest = in_use_then.manifest_kept;
-        tables = λ file file_fits live. subst IsKept (sym (same_table file.number file_fits))
-            (takes.tables_kept file file_fits live);
-        log = record {
-          number = w.writable.log.number;
-          fits = w.writable.log.fits;
-          last = record {
-            replayed = inl (memory.log, n.log_number, omega (arith, w.log_is));
-            empty_after = λ name k other is replayed less there.
-                w.writable.log.last.empty_after name k other is
-                (takes.still k (takes.from_log k replayed)) less
-                (sym (same_log name k is) ∙ there);
-            others_kept = λ name k is replayed differ. subst IsKept (sym (same_log name k is))
-                (w.writable.log.last.others_kept name k is
-                (takes.still k (takes.from_log k replayed)) differ);
-          };
-          clean_before = λ k other less replayed there. let up = takes.from_log k replayed in
-              absurd (omega (arith, less, up, w.log_is));
-          file = w.writable.log.file;
-          there = same_log (file_name Log w.writable.log.number) w.writable.log.number
-              (made_name Log w.writable.log.number w.writable.log.fits) ∙ w.writable.log.there;
-          records = w.writable.log.records;
-          clean_end = w.writable.log.clean_end;
-          batches = w.writable.log.batches;
-          each = w.writable.log.each;
-        };
-        bytes = w.writable.bytes;
-      }
-
-      written_then : IsWrittenBy store cmp IsTableOf now then
-          (record memory { set = set_then; imm = [] })
-      written_then = record {
-        tracked = tracked_then;
-        manifest = manifest_then;
-        is_in_use = refl;
-        writable = writable_then;
-        log_is = w.log_is;
-        from_log = omega arith;
-        mem_is = w.mem_is;
-        imm_is = λ entry. (
-          λ c. absurd (in_none entry c),
-          λ l. let up = takes.from_log l.0.number
-              (tracked_then.managed.has_logs.each l.0 l.1).1 in
-              absurd (omega (arith, l.2, up)),
-        );
-        reached = refined.bounded;
-        last_fits = w.last_fits;
-      }
-
+  -- so its edit may be logged, as each edit that names the log and changes nothing that is shown
   pub imm_becomes_table : ImmBecomesTableByEdits store cmp IsTableOf allowed
   imm_becomes_table one total ranges files edits memory w table h next_fits number_fits size_fits
-      first last = record {
-        keeps = imm_edit_keeps one total ranges files edits memory w table h can bytes;
-        after = written_then one total ranges files edits memory w table h can bytes;
-      }
+      first last = record { keeps = logged.keeps; after = logged.written }
     where
       can : IsEncodable (written_edit memory.set (table_edit memory.log table.file))
       can = tables_edit_fits memory.set memory.log (table.file ∷ [])
@@ -363,3 +251,13 @@ module _ (store : List ℕ) (cmp : List ℕ → List ℕ → Ordering)
       bytes : AreBytes (edit_record memory.set (table_edit memory.log table.file))
       bytes = tables_record_bytes memory.set memory.log (table.file ∷ [])
           (λ file c. subst KeysAreBytes (only_one table.file file c) (first, last))
+
+      takes_its_logs : TakesLogs store cmp IsTableOf files edits memory.set memory.log
+          (table_edit memory.log table.file)
+      takes_its_logs = takes one total ranges files edits memory w table h can
+
+      logged : EditIsLogged store cmp IsTableOf allowed files edits memory w
+          (table_edit memory.log table.file)
+      logged = edits_are_logged store cmp IsTableOf allowed files edits memory w
+          (table_edit memory.log table.file) refl takes_its_logs.refines takes_its_logs.tables_kept
+          can bytes
