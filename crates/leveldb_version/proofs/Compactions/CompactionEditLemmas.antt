@@ -1,15 +1,12 @@
 -- The edit of a compaction changes nothing that is shown, and it may be logged. A table that is
 -- moved is a compaction's output.
 use Rattle.leveldb_base.proofs.HistoryLemmas.{in_front, in_none}
-use Rattle.leveldb_base.proofs.NamesLemmas.{made_name, one_reading}
 use Rattle.leveldb_base.proofs.ThinningLemmas.{at_most_greatest}
 use Rattle.leveldb_base.specs.CmpLaws.{user_part-internal_key}
 use Rattle.leveldb_base.specs.History.{Entry, SameView, greatest}
 use Rattle.leveldb_base.specs.KeyTypes.{user_part}
 use Rattle.leveldb_base.specs.Layers.{IsOlder}
-use Rattle.leveldb_base.specs.Names.{IsFileName, file_name}
 use Rattle.leveldb_base.specs.Types.{Pair}
-use Rattle.leveldb_base.specs.declared.types.FileType.TheVariants.{Log}
 use Rattle.leveldb_env.specs.Env.{AreBytes, Files}
 use Rattle.leveldb_mem.specs.Log.Writer.{frame}
 use Rattle.leveldb_version.proofs.Compactions.CompactionLemmas.{keeps, newer_where_it_stays, of_input}
@@ -25,7 +22,7 @@ use Rattle.leveldb_files.proofs.Histories.SafeLemmas.{some_is}
 use Rattle.leveldb_version.proofs.Sets.TracksLemmas.{NumbersAre, numbers_are}
 use Rattle.leveldb_files.proofs.Edits.VersionSetLemmas.{applies_in_order, is_same_file-refl}
 use Rattle.leveldb_files.proofs.Histories.ViewsLemmas.{greatest_most, same_sets, view_trans}
-use Rattle.leveldb_version.proofs.Engines.ImmLemmas.{front_is_in, in_front_of, only_one, same_number}
+use Rattle.leveldb_version.proofs.Engines.ImmLemmas.{front_is_in, logs_below, only_one, same_number}
 use Rattle.leveldb_version.specs.Compactions.Compaction.{AreKnownByNumber, Compacts, IsTight, ReplacesInputs, moved}
 use Rattle.leveldb_version.specs.Compactions.CompactionEdit.{CompactionsAreLogged, EditIsLogged, HasMadeOutputs, IsCompactionEdit, LiveTablesAreKnown, MadeOutputsCompact, MovesCompact}
 use Rattle.leveldb_version.specs.Compactions.CompactionLaws.{KeepsLevelsAndViews}
@@ -289,28 +286,10 @@ module _ (store : List ℕ) (cmp : List ℕ → List ℕ → Ordering)
     logs_from : (k : ℕ) → LogIsReplayed (live_after then) k → memory.log ≤ k
     logs_from = from_log store cmp IsTableOf allowed files edits memory w plain is.log_number
 
-    log_fits : (k : ℕ) → k ≤ memory.log → k < 2 ^ 64
-    log_fits k most = omega (arith, most, w.writable.log.fits, w.log_is)
-
     taken : AreLogsBelow store files (live_after edits) memory.log p.front
-    taken = record {
-      each = λ log c. let t = m.has_logs.each log (front_is_in memory.log m.logs p log c) in
-          (t.0, t.1, p.before log c, t.2);
-      all = λ k less replayed some.
-          let a = m.has_logs.all (file_name Log k) k
-          (made_name Log k (log_fits k (omega (arith, less)))) replayed some in
-          (a.1.0, in_front_of memory.log m.logs p a.1.0 a.1.1 (omega (arith, less, a.1.2)), a.1.2);
-      kept = λ k less replayed.
-          let name = made_name Log k (log_fits k (omega (arith, less))) in
-          w.writable.log.last.others_kept (file_name Log k) k name replayed
-          (λ e.
-          let same = (one_reading (file_name Log k) k w.writable.log.number Log Log name
-          (subst (λ z. IsFileName z w.writable.log.number Log) (sym e)
-          (made_name Log w.writable.log.number w.writable.log.fits))).0 in
-          omega (arith, same, less, w.log_is));
-    }
+    taken = logs_below store cmp IsTableOf files edits memory w p
 
-    -- they have no entries, since none wait
+    -- they have no entries, since the immutable memtable has none
     nothing : (entry : Entry) → Contains (log_entries p.front) entry → ⊥
     nothing entry c =
         let l = log_of p.front entry c in

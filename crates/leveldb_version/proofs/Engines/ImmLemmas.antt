@@ -1,4 +1,5 @@
--- Entries that wait become a table: its edit takes the place of the logs that have them.
+-- The immutable memtable becomes a table: its edit takes the place of the logs that have its
+-- entries.
 use Rattle.leveldb_base.proofs.HistoryLemmas.{in_cases, in_front, in_none}
 use Rattle.leveldb_base.proofs.NamesLemmas.{made_name, one_reading}
 use Rattle.leveldb_base.specs.History.{Entry}
@@ -91,7 +92,35 @@ module _ (store : List ℕ) (cmp : List ℕ → List ℕ → Ordering)
       each_one IsInternalPair one_entry q.pairs a.entries b.entries
       (subst (λ ps. Each IsInternalPair ps a.entries) pairs p.each) q.each
 
-  -- the entries that wait are in logs
+  -- the logs below the one that is written are those below its number, of the logs that are replayed
+  pub logs_below : (files : Files) (edits : List Edit) (memory : EngineMemory)
+      (w : IsWrittenBy store cmp IsTableOf files edits memory)
+      (p : PartsAt memory.log w.tracked.managed.logs)
+      → AreLogsBelow store files (live_after edits) memory.log p.front
+  logs_below files edits memory w p = record {
+    each = λ log c. let t = m.has_logs.each log (front_is_in memory.log m.logs p log c) in
+        (t.0, t.1, p.before log c, t.2);
+    all = λ k less replayed some.
+        let a = m.has_logs.all (file_name Log k) k
+        (made_name Log k (log_fits k (omega (arith, less)))) replayed some in
+        (a.1.0, in_front_of memory.log m.logs p a.1.0 a.1.1 (omega (arith, less, a.1.2)), a.1.2);
+    kept = λ k less replayed.
+        let name = made_name Log k (log_fits k (omega (arith, less))) in
+        w.writable.log.last.others_kept (file_name Log k) k name replayed
+        (λ e.
+        let same = (one_reading (file_name Log k) k w.writable.log.number Log Log name
+        (subst (λ z. IsFileName z w.writable.log.number Log) (sym e)
+        (made_name Log w.writable.log.number w.writable.log.fits))).0 in
+        omega (arith, same, less, w.log_is));
+  }
+    where
+      m : IsManagedBy store cmp IsTableOf files edits w.tracked.contents
+      m = w.tracked.managed
+
+      log_fits : (k : ℕ) → k ≤ memory.log → k < 2 ^ 64
+      log_fits k most = omega (arith, most, w.writable.log.fits, w.log_is)
+
+  -- the entries of the immutable memtable are in logs
   pub imm_in_logs : (files : Files) (edits : List Edit) (memory : EngineMemory)
       (w : IsWrittenBy store cmp IsTableOf files edits memory) (entry : Entry)
       → Contains memory.imm entry → Contains (log_entries w.tracked.managed.logs) entry
@@ -192,26 +221,8 @@ module _ (store : List ℕ) (cmp : List ℕ → List ℕ → Ordering)
 
     -- ---- its logs
 
-    log_fits : (k : ℕ) → k ≤ memory.log → k < 2 ^ 64
-    log_fits k most = omega (arith, most, w.writable.log.fits, w.log_is)
-
     taken : AreLogsBelow store files (live_after edits) memory.log p.front
-    taken = record {
-      each = λ log c. let t = m.has_logs.each log (front_is_in memory.log m.logs p log c) in
-          (t.0, t.1, p.before log c, t.2);
-      all = λ k less replayed some.
-          let a = m.has_logs.all (file_name Log k) k
-          (made_name Log k (log_fits k (omega (arith, less)))) replayed some in
-          (a.1.0, in_front_of memory.log m.logs p a.1.0 a.1.1 (omega (arith, less, a.1.2)), a.1.2);
-      kept = λ k less replayed.
-          let name = made_name Log k (log_fits k (omega (arith, less))) in
-          w.writable.log.last.others_kept (file_name Log k) k name replayed
-          (λ e.
-          let same = (one_reading (file_name Log k) k w.writable.log.number Log Log name
-          (subst (λ z. IsFileName z w.writable.log.number Log) (sym e)
-          (made_name Log w.writable.log.number w.writable.log.fits))).0 in
-          omega (arith, same, less, w.log_is));
-    }
+    taken = logs_below store cmp IsTableOf files edits memory w p
 
     wrote : SameEntries (table_entries (table ∷ [])) (log_entries p.front)
     wrote entry = (
