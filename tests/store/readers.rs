@@ -473,9 +473,10 @@ fn keys_that_are_too_long(rt: HostRuntime) -> Result<()> {
     let alloc = rt.alloc();
     let mut env = store_of(alloc, &[("a", "1")])?;
     let mut db = open_read_only(alloc, STORE, &mut env, DefaultOptions::default())?;
-    let mut long = Vec::new(alloc);
-    long.resize((1 << 30) + 1, 0_u8)?;
-    assert!(rt; failed_with(db.get(&long), StatusCode::InvalidArgument)?);
+    let mut pages = Vec::new(alloc);
+    pages.resize((1 << 18) + 1, [0_u8; 4096])?;
+    let long = &pages.as_flattened()[..(1 << 30) + 1];
+    assert!(rt; failed_with(db.get(long), StatusCode::InvalidArgument)?);
     assert!(rt; one_byte(db.get(b"a")?) == b'1');
     Ok(())
 }

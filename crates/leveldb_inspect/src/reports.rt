@@ -24,7 +24,7 @@ pub(crate) struct Report<'a, O: Sink> {
     purpose: Purpose,
     // whether an opening doesn't read on
     is_ended: bool,
-    // whether it was told that records are left out
+    // whether a line has said that records are left out
     is_told: bool,
 }
 

@@ -1,4 +1,4 @@
--- What stands beside_cut a cut of a rising list.
+-- What is beside a cut of a rising list.
 use Rattle.std.proofs.Common.{◌≡◌, ◌≢◌, ◌⊎◌, ⊎_elim, ℕ, ◌-◌, ◌<◌, ◌≤◌, Bool, true, false, List, [], length, refl, sym, ◌∙◌, ap, subst, arith, Option, Some, None}
 use Rattle.std.specs.Prelude.{Contains}
 use Rattle.std.proofs.lemmas.Bool.{cases_lt, cases_order, false≢true}
@@ -200,7 +200,7 @@ module _ {accepts : List ℕ → Bool} {cmp : List ℕ → List ℕ → Ordering
           subst (λ m. IsFirstBeside cmp Reverse before pairs (pair_at pairs (previous_position (Some m)))) (sym none) (λ q c f. let p = before_cut q c f in omega (arith, p.2)))
           (cases_lt 0 n)
 
-      -- beside_cut the cut stands the pair that goes first on that side
+      -- beside the cut is the pair that comes first on that side
       pub first_beside : (d : Direction) → IsFirstBeside cmp d before pairs (pair_at pairs (beside_cut d before pairs))
       first_beside Forward = first_ahead
       first_beside Reverse = first_behind

@@ -79,7 +79,7 @@ impl<M> ViewWalk<M> {
 
     // What the entry is that the walk below is at. The key of a deletion is kept.
     #[inline(always)]
-    fn look<E, T>(&mut self, skipping: bool) -> Result<Seen>
+    fn read_forward<E, T>(&mut self, skipping: bool) -> Result<Seen>
     where
         M: Walk<E, T>,
         ensures walk { self.new.walk ≡ self.old.walk }
@@ -109,7 +109,7 @@ impl<M> ViewWalk<M> {
 
     // Keeps the user's key of the entry that the walk below is at.
     #[inline(always)]
-    fn keep_key<E, T>(&mut self) -> Result<()>
+    fn save_key<E, T>(&mut self) -> Result<()>
     where
         M: Walk<E, T>,
         ensures walk { self.new.walk ≡ self.old.walk }
@@ -147,7 +147,7 @@ impl<M> ViewWalk<M> {
             (self.new.saved_key.items, self.new.saved_value.items))
             (env.old, tables.old) self.old.walk result (env.new, tables.new) self.new.walk }
     {
-        let next = match self.look::<E, T>(skipping)? {
+        let next = match self.read_forward::<E, T>(skipping)? {
             Seen::End => return Ok(None),
             Seen::Shown => {
                 self.at = Some(Direction::Forward);
@@ -190,7 +190,7 @@ impl<M> ViewWalk<M> {
     // Goes to the entry after the pair that it is at, and from no position to the first entry.
     // Returns whether the key of the pair is to be skipped.
     #[inline(always)]
-    fn leave<E, T>(&mut self, env: &mut E, tables: &mut T) -> Result<bool>
+    fn step_off<E, T>(&mut self, env: &mut E, tables: &mut T) -> Result<bool>
     where
         M: Walk<E, T>,
         ensures sequence { self.new.sequence ≡ self.old.sequence }
@@ -210,7 +210,7 @@ impl<M> ViewWalk<M> {
                 Ok(false)
             }
             Some(Direction::Forward) => {
-                self.keep_key::<E, T>()?;
+                self.save_key::<E, T>()?;
                 self.walk.advance(env, tables)?;
                 Ok(true)
             }
@@ -229,7 +229,7 @@ impl<M> ViewWalk<M> {
     // Takes the entry that the walk below is at for the pair to be shown, and returns whether one
     // is taken. A deletion takes it back. An entry of another key ends the search.
     #[inline(always)]
-    fn take<E, T>(&mut self, taken: bool) -> Result<Option<bool>>
+    fn read_backward<E, T>(&mut self, taken: bool) -> Result<Option<bool>>
     where
         M: Walk<E, T>,
         ensures walk { self.new.walk ≡ self.old.walk }
@@ -280,7 +280,7 @@ impl<M> ViewWalk<M> {
             (self.new.saved_key.items, self.new.saved_value.items))
             (env.old, tables.old) self.old.walk result (env.new, tables.new) self.new.walk }
     {
-        let Some(now) = self.take::<E, T>(taken)? else {
+        let Some(now) = self.read_backward::<E, T>(taken)? else {
             self.at = taken.then_some(Direction::Reverse);
             return Ok(None);
         };
@@ -351,7 +351,12 @@ impl<M> ViewWalk<M> {
 
     // Goes to before all entries of the key of the pair that it is at.
     #[inline(always)]
-    fn leave_back<E, T>(&mut self, env: &mut E, tables: &mut T, direction: Direction) -> Result<()>
+    fn step_off_back<E, T>(
+        &mut self,
+        env: &mut E,
+        tables: &mut T,
+        direction: Direction,
+    ) -> Result<()>
     where
         M: Walk<E, T>,
         ensures sequence { self.new.sequence ≡ self.old.sequence }
@@ -366,7 +371,7 @@ impl<M> ViewWalk<M> {
         match direction {
             Direction::Reverse => Ok(()),
             Direction::Forward => {
-                self.keep_key::<E, T>()?;
+                self.save_key::<E, T>()?;
                 self.turn_back(env, tables)
             }
         }
@@ -429,7 +434,7 @@ impl<E, T, M: Walk<E, T>> Walk<E, T> for ViewWalk<M> {
     ghost keeps = { M.keeps };
 
     fn advance(&mut self, env: &mut E, tables: &mut T) -> Result<bool> {
-        let skipping = self.leave(env, tables)?;
+        let skipping = self.step_off(env, tables)?;
         self.find_next(env, tables, skipping)?;
         Ok(Walk::<E, T>::valid(self))
     }
@@ -438,7 +443,7 @@ impl<E, T, M: Walk<E, T>> Walk<E, T> for ViewWalk<M> {
         let Some(direction) = self.at else {
             return Ok(false);
         };
-        self.leave_back(env, tables, direction)?;
+        self.step_off_back(env, tables, direction)?;
         self.find_previous(env, tables)?;
         Ok(Walk::<E, T>::valid(self))
     }

@@ -84,7 +84,7 @@ pub fn make_move<E, T, W: Walk<E, T>>(
         walk.reset();
         return Step::Refused(status);
     }
-    if let Err(status) = lead(walk, env, tables, one) {
+    if let Err(status) = make_one(walk, env, tables, one) {
         return Step::Refused(status);
     }
     match copy_pair(alloc, walk.current()) {
@@ -98,7 +98,12 @@ pub fn make_move<E, T, W: Walk<E, T>>(
 }
 
 // Makes a move.
-fn lead<E, T, W: Walk<E, T>>(walk: &mut W, env: &mut E, tables: &mut T, one: &Move) -> Result<()>
+fn make_one<E, T, W: Walk<E, T>>(
+    walk: &mut W,
+    env: &mut E,
+    tables: &mut T,
+    one: &Move,
+) -> Result<()>
     ensures { MovesWalk W.over W.is_at W.here W.fails W.keeps
         (λ world it order pairs position. W.is_at world it order pairs position
         × AcceptsKeyOf order one.now) (position_moved one.now) (env.old, tables.old) walk.old

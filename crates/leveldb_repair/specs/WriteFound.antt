@@ -46,7 +46,7 @@ files_of_level_one files = map (λ file. new_file_of (1, file)) files
 
 module _ {C FP : Type 0} {order : CmpGhosts C} {filters : FilterGhosts FP}
     (choices : TableChoices order filters) where
-  -- a merge of which nothing goes: no number is held, no level is known to be the deepest one that
+  -- a merge that drops nothing: no number is held, no level is known to be the deepest one that
   -- has a user key, and each user key is among the inputs
   abbrev pub merge_of_all : List ℕ → Merge order filters
   merge_of_all store = merge_of choices store 0 (λ user. false) (λ user. true)

@@ -1,4 +1,4 @@
-//! Which entries a merge leaves out, as the entry just before tells.
+//! Which entries a merge drops, which the entry just before each decides.
 // LevelDB: db/db_impl.cc, what DBImpl::DoCompactionWork drops
 ghost use Rattle.std.specs.Prelude.{◌≡◌, Bool, IfErr, List, OnErr, OnOk, Option, None, Some, ℕ};
 ghost use Rattle.leveldb_base.specs.Entries.{entry_of_pair};
@@ -82,8 +82,9 @@ impl Passing {
         }
     }
 
-    // Whether an entry goes: the one just before is of its user key and at or below the smallest
-    // held number; or it is a deletion at or below that, whose key no deeper level may have.
+    // Whether an entry is dropped: the one just before is of its user key and at or below the
+    // smallest held number; or it is a deletion at or below that, whose key no deeper level may
+    // have.
     pub(crate) fn goes<L: MergeLevels>(
         &self,
         levels: &L,

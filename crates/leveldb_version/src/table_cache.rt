@@ -32,7 +32,7 @@ const OTHER_FILES: usize = 10;
 /// The open tables of a store, of which the least recently used is closed first, and blocks of
 /// tables, of closed ones too, as long as there is room. The calls that use the disk are given the
 /// environment and the options. Each table that is opened gets an id, under which its blocks are
-/// kept; where ids are used up, the cache begins anew, with no table open and no block in memory.
+/// kept; where ids are used up, the cache starts over, with no table open and no block in memory.
 /// It keeps the key of the pair that was found last.
 pub struct TableCache<E: Env, C: UserCmp + Copy + Drop, FP: FilterPolicy + Copy + Drop>
 where
@@ -294,7 +294,7 @@ impl<E: Env, C: UserCmp + Copy + Drop, FP: FilterPolicy + Copy + Drop> TableCach
         )
     }
 
-    // Begins anew if the ids of tables are used up.
+    // Starts over if the ids of tables are used up.
     fn renew(&mut self) -> Result<()>
         ensures ok { OnOk result (self.new ≡ renewed self.old) }
         ensures err { OnErr result (self.new ≡ self.old) }

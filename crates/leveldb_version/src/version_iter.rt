@@ -65,7 +65,7 @@ impl<'a, C: UserCmp + Copy + Drop> VersionIter<'a, C> {
         reset(&mut self.core);
     }
 
-    // Turns to the file of this index, where the walk begins anew if it was at another.
+    // Turns to the file of this index; if the walk was at another, it is at no pair of this one.
     fn turn_to(&mut self, at: usize)
         ensures turns { KeepsTableOrNone self.old.at self.old.core at self.new.core }
         ensures at { self.new.at ≡ at }

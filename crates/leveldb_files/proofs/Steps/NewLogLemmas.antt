@@ -3,12 +3,12 @@ use Rattle.leveldb_base.proofs.NamesLemmas.{made_name, one_reading}
 use Rattle.leveldb_base.specs.History.{History, greatest}
 use Rattle.leveldb_base.specs.Names.{IsFileName, file_name}
 use Rattle.leveldb_base.specs.Types.{Pair}
-use Rattle.leveldb_base.specs.declared.types.FileType.TheVariants.{Current, Descriptor, Log, Table}
+use Rattle.leveldb_base.specs.declared.types.FileType.TheVariants.{Current, Descriptor, Log}
 use Rattle.leveldb_env.proofs.EnvLemmas.{FileCrashesTo-kept, SameBut-created, at_other, at_same}
 use Rattle.leveldb_env.specs.Env.{BeforeOrAfter, File, FileCrashesTo, Files, FilesCrashTo, SameBut, created, in_folder, kept_file, or_empty, with_file}
 use Rattle.leveldb_mem.specs.Log.{clean}
 use Rattle.leveldb_files.proofs.Stores.LogsLemmas.{batches_last, rising_last}
-use Rattle.leveldb_files.proofs.Stores.ManagedLemmas.{kinds_apart, log_on, managed_on, numbers_apart, same_bytes, same_name, tables_on}
+use Rattle.leveldb_files.proofs.Stores.ManagedLemmas.{SameBytes, kinds_apart, log_on, managed_on, numbers_apart, same_bytes, same_name, tables_on, tables_same}
 use Rattle.leveldb_files.proofs.Stores.ManifestLemmas.{edits_on}
 use Rattle.leveldb_files.proofs.Histories.SafeLemmas.{unread_safe}
 use Rattle.leveldb_files.specs.Stores.Batches.{AreInOrder, all_entries}
@@ -18,8 +18,8 @@ use Rattle.leveldb_files.specs.Levels.Levels.{table_entries}
 use Rattle.leveldb_files.specs.Stores.Paths.{current_path, log_path, table_path}
 use Rattle.leveldb_files.specs.Stores.Store.{HasLog, IsManagedBy, LogIsReplayed, IsStore, ReplayedLog, log_batches}
 use Rattle.leveldb_files.specs.Steps.StoreSteps.{IsAboveLogs}
-use Rattle.leveldb_files.specs.Edits.Edit.{Edit}
-use Rattle.leveldb_files.specs.Edits.VersionSet.{FileSet, live_after}
+use Rattle.leveldb_files.specs.Edits.Edit.{Edit, NewFile}
+use Rattle.leveldb_files.specs.Edits.VersionSet.{FileSet, level_file, live_after}
 use Rattle.std.proofs.Common.{◌++◌, ◌<◌, ◌^◌, ◌∙◌, ◌∷◌, ◌≡◌, ◌≤◌, ◌⊎◌, Bool, List, None, Option, Some, [], ap, append-nil, arith, false, inl, inr, refl, subst, sym, true, ℕ, ⊎_elim}
 use Rattle.std.proofs.lemmas.Bool.{cases_lt}
 use Rattle.std.proofs.lemmas.List.Elements.{Contains-append_left, Contains-push, Contains-push_cases}
@@ -90,6 +90,12 @@ module _ (store : List ℕ) (cmp : List ℕ → List ℕ → Ordering)
     same : SameBut path left new
     same other away = at_other path (Some (kept_file [])) left other away
 
+    tables_stay : (file : NewFile) → file.number < 2 ^ 64
+        → (live_after edits).file (level_file file) ≡ Some file
+        → SameBytes (left (table_path store file.number)) (new (table_path store file.number))
+    tables_stay = tables_same store cmp IsTableOf (live_after edits) (file_name Log n) n Log left new
+        named (λ e. cc) same
+
     below : (log : ReplayedLog) → Contains m.logs log → log.number < n
     below log c =
         let h = m.has_logs.each log c in
@@ -112,13 +118,7 @@ module _ (store : List ℕ) (cmp : List ℕ → List ℕ → Ordering)
       last_is = m.last_is;
       numbers_fit = m.numbers_fit;
       tables = m.tables;
-      has_tables = tables_on store cmp IsTableOf (live_after edits) left new m.tables
-          (λ file file_fits live.
-          same_bytes (left (table_path store file.number)) (new (table_path store file.number))
-          (same (table_path store file.number)
-          (kinds_apart store (file_name Log n)
-          (file_name Table file.number) n file.number Log Table named
-          (made_name Table file.number file_fits) (λ e. cc))))
+      has_tables = tables_on store cmp IsTableOf (live_after edits) left new m.tables tables_stay
           m.has_tables;
       logs = logs;
       has_logs = record {
@@ -201,13 +201,7 @@ module _ (store : List ℕ) (cmp : List ℕ → List ℕ → Ordering)
     without_it : (LogIsReplayed (live_after edits) n → ⊥)
         → IsManagedBy store cmp IsTableOf new edits contents
     without_it never = managed_on store cmp IsTableOf left new edits contents (record {
-      tables =
-          λ file file_fits live.
-          same_bytes (left (table_path store file.number)) (new (table_path store file.number))
-          (same (table_path store file.number)
-          (kinds_apart store (file_name Log n)
-          (file_name Table file.number) n file.number Log Table named
-          (made_name Table file.number file_fits) (λ e. cc)));
+      tables = tables_stay;
       logs =
           λ name k is replayed.
           same_bytes (left (in_folder store name)) (new (in_folder store name))

@@ -4,19 +4,17 @@ use Rattle.std.specs.Option.{option_or}
 use Rattle.leveldb_files.proofs.Edits.VersionSetLemmas.{applies_in_order}
 use Rattle.leveldb_base.specs.History.{Entry, SameView, greatest}
 use Rattle.leveldb_base.specs.Types.{Pair}
-use Rattle.leveldb_env.specs.Env.{Files, FilesCrashTo}
-use Rattle.leveldb_files.proofs.Stores.KeptLemmas.{kept_left}
+use Rattle.leveldb_env.specs.Env.{Files}
+use Rattle.leveldb_files.proofs.Stores.KeptLemmas.{tables_left}
 use Rattle.leveldb_files.proofs.Stores.LogsLemmas.{order_above}
-use Rattle.leveldb_files.proofs.Stores.ManagedLemmas.{tables_on}
 use Rattle.leveldb_files.proofs.Histories.NumbersLemmas.{up_to_greatest as up_greatest}
 use Rattle.leveldb_files.proofs.Stores.OneStoreLemmas.{tables_in}
 use Rattle.leveldb_files.proofs.Histories.SafeLemmas.{some_is}
 use Rattle.leveldb_files.proofs.Histories.ViewsLemmas.{append_sets, greatest_most, same_sets, same_with_later, turned, view_trans}
 use Rattle.leveldb_files.specs.Stores.Contents.{Contents}
-use Rattle.leveldb_files.specs.Levels.Levels.{LiveTable, table_entries}
-use Rattle.leveldb_files.specs.Stores.Paths.{table_path}
-use Rattle.leveldb_files.specs.Stores.Store.{HasTables, IsManagedBy, LogIsReplayed, LastNumbersFit, OneTableReading, SameEntries, contents_of, log_batches, log_entries}
-use Rattle.leveldb_files.specs.Steps.StoreSteps.{EditRefines, LastRises, Refines, SwapsTables, TablesAreKept}
+use Rattle.leveldb_files.specs.Levels.Levels.{table_entries}
+use Rattle.leveldb_files.specs.Stores.Store.{IsManagedBy, LogIsReplayed, LastNumbersFit, OneTableReading, SameEntries, contents_of, log_batches, log_entries}
+use Rattle.leveldb_files.specs.Steps.StoreSteps.{EditRefines, LastRises, Refines, SwapsTables}
 use Rattle.leveldb_files.specs.Edits.Edit.{Edit}
 use Rattle.leveldb_files.specs.Edits.VersionSet.{FileSet, live_after}
 use Rattle.std.proofs.Common.{◌++◌, ◌∙◌, ◌∷◌, ◌≡◌, ◌≤◌, List, Some, [], ap, arith, inl, inr, refl, subst, sym, ℕ, ⊎_elim}
@@ -47,16 +45,6 @@ edit_fits bound edits edit rises fits one n c is = ⊎_elim
 
 module _ (store : List ℕ) (cmp : List ℕ → List ℕ → Ordering)
     (IsTableOf : List ℕ → List Pair → Type 0) (one : OneTableReading IsTableOf) where
-  tables_left : (files left : Files) (set : FileSet) (tables : List LiveTable)
-      → TablesAreKept store files set → FilesCrashTo files left
-      → HasTables store cmp IsTableOf files set tables
-      → HasTables store cmp IsTableOf left set tables
-  tables_left files left set tables kept leaves has =
-      tables_on store cmp IsTableOf set files left tables
-      (λ file fits live.
-      kept_left (files (table_path store file.number)) (left (table_path store file.number))
-      (kept file fits live) (leaves (table_path store file.number))) has
-
   pub swap_refines : (bound : ℕ) (files : Files) (edits : List Edit) (edit : Edit)
       → SwapsTables store cmp IsTableOf bound files (live_after edits)
       (live_after (edits ++ edit ∷ []))
@@ -68,7 +56,7 @@ module _ (store : List ℕ) (cmp : List ℕ → List ℕ → Ordering)
 
       before_here : SameEntries (table_entries m.tables) (table_entries s.before)
       before_here = let has =
-          tables_left files left
+          tables_left store cmp IsTableOf files left
           (live_after edits) s.before s.has_before.kept leaves s.has_before.has in
           λ entry. (
             tables_in store cmp IsTableOf one left
@@ -95,7 +83,7 @@ module _ (store : List ℕ) (cmp : List ℕ → List ℕ → Ordering)
         numbers_fit = edit_fits bound edits edit s.last m.numbers_fit;
         tables = s.after;
         has_tables =
-            tables_left files left
+            tables_left store cmp IsTableOf files left
             (live_after (edits ++ edit ∷ [])) s.after s.has_after.kept leaves s.has_after.has;
         logs = m.logs;
         has_logs = record {

@@ -7,9 +7,9 @@ use Rattle.leveldb_base.specs.Names.{file_name}
 use Rattle.leveldb_base.specs.Types.{Pair}
 use Rattle.leveldb_base.specs.declared.types.FileType.TheVariants.{Log}
 use Rattle.leveldb_env.specs.Env.{Files, FilesCrashTo}
-use Rattle.leveldb_files.proofs.Stores.KeptLemmas.{kept_left}
+use Rattle.leveldb_files.proofs.Stores.KeptLemmas.{kept_left, tables_left}
 use Rattle.leveldb_files.proofs.Stores.LogsLemmas.{PartsAt, batches_parts, entries_parts, order_above, order_after, order_low, parts_at}
-use Rattle.leveldb_files.proofs.Stores.ManagedLemmas.{log_on, tables_on}
+use Rattle.leveldb_files.proofs.Stores.ManagedLemmas.{log_on}
 use Rattle.leveldb_files.proofs.Histories.NumbersLemmas.{up_to_greatest}
 use Rattle.leveldb_files.proofs.Stores.OneStoreLemmas.{flat_in, in_flat, one_log, tables_in}
 use Rattle.leveldb_files.proofs.Histories.SafeLemmas.{some_is}
@@ -17,11 +17,11 @@ use Rattle.leveldb_files.proofs.Histories.ViewsLemmas.{greatest_most, same_sets}
 use Rattle.leveldb_files.specs.Stores.Batches.{AreInOrder, all_entries, batch_entries}
 use Rattle.leveldb_files.specs.Stores.Contents.{Contents}
 use Rattle.leveldb_files.specs.Levels.Levels.{LiveTable, table_entries}
-use Rattle.leveldb_files.specs.Stores.Paths.{log_path, table_path}
-use Rattle.leveldb_files.specs.Stores.Store.{HasLog, HasTables, IsLog, IsManagedBy, LogIsReplayed, OneTableReading, ReplayedLog, SameEntries, contents_of, log_batches, log_entries}
-use Rattle.leveldb_files.specs.Steps.StoreSteps.{EditRefines, Refines, SwitchesLog, TablesAreKept}
+use Rattle.leveldb_files.specs.Stores.Paths.{log_path}
+use Rattle.leveldb_files.specs.Stores.Store.{HasLog, IsLog, IsManagedBy, LogIsReplayed, OneTableReading, ReplayedLog, SameEntries, contents_of, log_batches, log_entries}
+use Rattle.leveldb_files.specs.Steps.StoreSteps.{EditRefines, Refines, SwitchesLog}
 use Rattle.leveldb_files.specs.Edits.Edit.{Edit}
-use Rattle.leveldb_files.specs.Edits.VersionSet.{FileSet, live_after}
+use Rattle.leveldb_files.specs.Edits.VersionSet.{live_after}
 use Rattle.std.proofs.Common.{◌++◌, ◌∙◌, ◌∷◌, ◌≡◌, ◌≤◌, List, None, Some, [], ap, arith, inl, inr, refl, subst, sym, ℕ, ⊎_elim}
 use Rattle.std.proofs.lemmas.List.Concat.{flat_map-append}
 use Rattle.std.proofs.lemmas.List.Elements.{Contains-append_cases, Contains-append_left, Contains-append_right}
@@ -47,16 +47,6 @@ one_has_log store files a b number p q =
 
 module _ (store : List ℕ) (cmp : List ℕ → List ℕ → Ordering)
     (IsTableOf : List ℕ → List Pair → Type 0) (one : OneTableReading IsTableOf) where
-  tables_left : (files left : Files) (set : FileSet) (tables : List LiveTable)
-      → TablesAreKept store files set → FilesCrashTo files left
-      → HasTables store cmp IsTableOf files set tables
-      → HasTables store cmp IsTableOf left set tables
-  tables_left files left set tables kept leaves has =
-      tables_on store cmp IsTableOf set files left tables
-      (λ file fits live.
-      kept_left (files (table_path store file.number)) (left (table_path store file.number))
-      (kept file fits live) (leaves (table_path store file.number))) has
-
   module _ (bound : ℕ) (files : Files) (edits : List Edit) (edit : Edit)
       (s :
       SwitchesLog store cmp IsTableOf bound files (live_after edits)
@@ -123,7 +113,7 @@ module _ (store : List ℕ) (cmp : List ℕ → List ℕ → Ordering)
 
     before_here : SameEntries (table_entries m.tables) (table_entries s.before)
     before_here = let has =
-        tables_left files left
+        tables_left store cmp IsTableOf files left
         (live_after edits) s.before s.has_before.kept leaves s.has_before.has in
         λ entry. (
           tables_in store cmp IsTableOf one left
@@ -155,7 +145,7 @@ module _ (store : List ℕ) (cmp : List ℕ → List ℕ → Ordering)
       numbers_fit = edit_fits bound edits edit s.last m.numbers_fit;
       tables = after;
       has_tables =
-          tables_left files left
+          tables_left store cmp IsTableOf files left
           (live_after (edits ++ edit ∷ [])) after s.has_after.kept leaves s.has_after.has;
       logs = p.back;
       has_logs = record {

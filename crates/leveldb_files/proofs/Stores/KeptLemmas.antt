@@ -2,15 +2,14 @@
 use Rattle.leveldb_base.specs.History.{History}
 use Rattle.leveldb_base.specs.Types.{Pair}
 use Rattle.leveldb_env.specs.Env.{File, FileCrashesTo, Files, FilesCrashTo, bytes_of, in_folder}
-use Rattle.leveldb_mem.specs.Log.{IsLogFile}
-use Rattle.leveldb_files.proofs.Stores.ManagedLemmas.{SameBytes, SameFor, managed_on}
-use Rattle.leveldb_files.proofs.Stores.ManifestLemmas.{left_whole}
+use Rattle.leveldb_files.proofs.Stores.ManagedLemmas.{SameBytes, SameFor, managed_on, tables_on}
+use Rattle.leveldb_files.proofs.Stores.ManifestLemmas.{edits_again, left_whole}
 use Rattle.leveldb_files.specs.Stores.Contents.{Contents, Store}
-use Rattle.leveldb_files.specs.Edits.Current.{IsCurrentText}
 use Rattle.leveldb_files.specs.Histories.Holds.{Holds, IsSafe, MatchesHistory}
+use Rattle.leveldb_files.specs.Levels.Levels.{LiveTable}
 use Rattle.leveldb_files.specs.Stores.Paths.{current_path, table_path}
-use Rattle.leveldb_files.specs.Stores.Store.{HasEdits, IsStore}
-use Rattle.leveldb_files.specs.Steps.StoreSteps.{AreKept, IsAllKept, IsKept}
+use Rattle.leveldb_files.specs.Stores.Store.{HasEdits, HasTables, IsStore}
+use Rattle.leveldb_files.specs.Steps.StoreSteps.{AreKept, IsAllKept, IsKept, TablesAreKept}
 use Rattle.leveldb_files.specs.Edits.Edit.{Edit}
 use Rattle.leveldb_files.specs.Edits.VersionSet.{FileSet, live_after}
 use Rattle.std.proofs.Common.{◌+◌, ◌∙◌, ◌≡◌, List, None, Option, Some, [], ap, arith, inl, inr, length, subst, sym, ℕ}
@@ -51,24 +50,23 @@ edits_left store files left edits e kept_current kept_manifest leaves =
     let m = left_whole e.manifest (left (in_folder store e.name)) kept_manifest
     (subst (λ f. FileCrashesTo f (left (in_folder store e.name))) e.there
     (leaves (in_folder store e.name))) in
-    record {
-      current = c.now;
-      current_there = c.there;
-      name = e.name;
-      number = e.number;
-      named = subst (λ b. IsCurrentText b e.name e.number) (sym c.bytes) e.named;
-      manifest = m.now;
-      there = m.there;
-      is = record {
-        records = e.is.records;
-        end = e.is.end;
-        read = subst (λ b. IsLogFile b e.is.records e.is.end) (sym m.bytes) e.is.read;
-        each = e.is.each;
-      };
-    }
+    edits_again store files left edits e
+    (record { now = c.now; there = c.there; bytes = c.bytes })
+    (record { now = m.now; there = m.there; bytes = m.bytes })
 
 module _ (store : List ℕ) (cmp : List ℕ → List ℕ → Ordering)
     (IsTableOf : List ℕ → List Pair → Type 0) where
+  -- kept tables are there after a crash
+  pub tables_left : (files left : Files) (set : FileSet) (tables : List LiveTable)
+      → TablesAreKept store files set → FilesCrashTo files left
+      → HasTables store cmp IsTableOf files set tables
+      → HasTables store cmp IsTableOf left set tables
+  tables_left files left set tables kept leaves has =
+      tables_on store cmp IsTableOf set files left tables
+      (λ file fits live.
+      kept_left (files (table_path store file.number)) (left (table_path store file.number))
+      (kept file fits live) (leaves (table_path store file.number))) has
+
   abbrev AllKept : Files → Contents → Type 0
   AllKept = IsAllKept store cmp IsTableOf
 

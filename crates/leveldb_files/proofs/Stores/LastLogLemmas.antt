@@ -3,20 +3,20 @@ use Rattle.leveldb_base.proofs.NamesLemmas.{made_name}
 use Rattle.leveldb_base.specs.History.{Entry, greatest}
 use Rattle.leveldb_base.specs.Names.{IsFileName, file_name}
 use Rattle.leveldb_base.specs.Types.{Pair}
-use Rattle.leveldb_base.specs.declared.types.FileType.TheVariants.{Log, Table}
+use Rattle.leveldb_base.specs.declared.types.FileType.TheVariants.{Log}
 use Rattle.leveldb_env.specs.Env.{File, Files, SameBut, bytes_of, in_folder}
 use Rattle.leveldb_mem.proofs.LawsLemmas.{log_laws}
 use Rattle.leveldb_mem.specs.Log.{End, IsLogFile, bad, clean}
 use Rattle.leveldb_mem.specs.WriteBatch.{Batch}
 use Rattle.leveldb_files.proofs.Stores.BatchesLemmas.{one_batches}
 use Rattle.leveldb_files.proofs.Stores.LogsLemmas.{SplitsAt, above_before, all_append, batches_at, below_after, in_split, order_above, order_append, rising_at, split_after, split_at, split_before, splits_at}
-use Rattle.leveldb_files.proofs.Stores.ManagedLemmas.{kinds_apart, log_on, numbers_apart, same_bytes, tables_on}
+use Rattle.leveldb_files.proofs.Stores.ManagedLemmas.{log_on, numbers_apart, same_bytes, tables_on, tables_same}
 use Rattle.leveldb_files.proofs.Histories.NumbersLemmas.{greatest_append}
 use Rattle.leveldb_files.proofs.Histories.SafeLemmas.{some_is}
 use Rattle.leveldb_files.specs.Stores.Batches.{AreInOrder, Each, IsRecordOf, all_entries}
 use Rattle.leveldb_files.specs.Stores.Contents.{Contents, made}
 use Rattle.leveldb_files.specs.Levels.Levels.{table_entries}
-use Rattle.leveldb_files.specs.Stores.Paths.{log_path, table_path}
+use Rattle.leveldb_files.specs.Stores.Paths.{log_path}
 use Rattle.leveldb_files.specs.Stores.Store.{FitTogether, HasLog, HasLogs, IsManagedBy, LogIsReplayed, LogsRise, ReplayedLog, contents_of, log_batches, log_entries}
 use Rattle.leveldb_files.specs.Edits.Edit.{Edit}
 use Rattle.leveldb_files.specs.Edits.VersionSet.{live_after}
@@ -308,13 +308,8 @@ module _ (store : List ℕ) (cmp : List ℕ → List ℕ → Ordering)
       numbers_fit = m.numbers_fit;
       tables = m.tables;
       has_tables = tables_on store cmp IsTableOf (live_after edits) old new m.tables
-          (λ file file_fits live.
-          same_bytes (old (table_path store file.number)) (new (table_path store file.number))
-          (same (table_path store file.number)
-          (kinds_apart store (file_name Log n)
-          (file_name Table file.number) n file.number Log Table named
-          (made_name Table file.number file_fits) (λ e. cc))))
-          m.has_tables;
+          (tables_same store cmp IsTableOf (live_after edits) (file_name Log n) n Log old new named
+          (λ e. cc) same) m.has_tables;
       logs = new_logs;
       has_logs = has_logs;
       fit = fit;

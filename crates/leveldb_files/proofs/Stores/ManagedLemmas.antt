@@ -167,17 +167,23 @@ module _ (store : List ℕ) (cmp : List ℕ → List ℕ → Ordering)
     is = m.is;
   }
 
+  -- where a file of another type changes, each table has the bytes that it had
+  pub tables_same : (set : FileSet) (name : List ℕ) (n : ℕ) (kind : FileType) (old new : Files)
+      → IsFileName name n kind → kind ≢ Table → SameBut (in_folder store name) old new
+      → (file : NewFile) → file.number < 2 ^ 64 → set.file (level_file file) ≡ Some file
+      → SameBytes (old (table_path store file.number)) (new (table_path store file.number))
+  tables_same set name n kind old new is no_table same file fits live =
+      same_bytes (old (table_path store file.number)) (new (table_path store file.number))
+      (same (table_path store file.number)
+      (kinds_apart store name (file_name Table file.number) n file.number kind Table is
+      (made_name Table file.number fits) no_table))
+
   -- a file of another type than a table or a log may change
   pub same_for_others : (set : FileSet) (name : List ℕ) (n : ℕ) (kind : FileType) (old new : Files)
       → IsFileName name n kind → kind ≢ Table → kind ≢ Log
       → SameBut (in_folder store name) old new → SameFor store set old new
   same_for_others set name n kind old new is no_table no_log same = record {
-    tables =
-        λ file fits live.
-        same_bytes (old (table_path store file.number)) (new (table_path store file.number))
-        (same (table_path store file.number)
-        (kinds_apart store name (file_name Table file.number) n file.number kind Table is
-        (made_name Table file.number fits) no_table));
+    tables = tables_same set name n kind old new is no_table same;
     logs =
         λ other m is_other replayed.
         same_bytes (old (in_folder store other)) (new (in_folder store other))

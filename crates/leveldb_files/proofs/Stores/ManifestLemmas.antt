@@ -5,7 +5,7 @@ use Rattle.leveldb_mem.proofs.LawsLemmas.{log_laws}
 use Rattle.leveldb_mem.specs.Log.{End, IsLogFile}
 use Rattle.leveldb_files.proofs.Stores.BatchesLemmas.{each_one}
 use Rattle.leveldb_files.proofs.Edits.CurrentLemmas.{one_current}
-use Rattle.leveldb_files.proofs.Stores.ManagedLemmas.{SameBytes, found_again}
+use Rattle.leveldb_files.proofs.Stores.ManagedLemmas.{IsFoundAgain, SameBytes, found_again}
 use Rattle.leveldb_files.proofs.Histories.SafeLemmas.{some_is}
 use Rattle.leveldb_files.proofs.Edits.EditLemmas.{one_edit}
 use Rattle.leveldb_files.specs.Stores.Batches.{Each}
@@ -27,6 +27,7 @@ pub record IsLeftWhole (file : File) (left : Option File) : Type 0 where
   pub kept : now.since ≡ []
   pub bytes : bytes_of now ≡ bytes_of file
 
+-- a file of which all is kept is left whole by a crash
 pub left_whole : (file : File) (left : Option File) → file.since ≡ []
     → FileCrashesTo (Some file) left → IsLeftWhole file left
 left_whole file left is leaves =
@@ -72,30 +73,35 @@ one_has_edits store files these those a b =
           (subst (λ rs. Each IsEdit rs these) records moved.each) b.is.each,
     )
 
+-- the same edits are there where `CURRENT` and the manifest are found again with their bytes
+pub edits_again : (store : List ℕ) (old new : Files) (edits : List Edit)
+    (e : HasEdits store old edits) → IsFoundAgain e.current (new (current_path store))
+    → IsFoundAgain e.manifest (new (in_folder store e.name)) → HasEdits store new edits
+edits_again store old new edits e c m = record {
+  current = c.now;
+  current_there = c.there;
+  name = e.name;
+  number = e.number;
+  named = subst (λ b. IsCurrentText b e.name e.number) (sym c.bytes) e.named;
+  manifest = m.now;
+  there = m.there;
+  is = record {
+    records = e.is.records;
+    end = e.is.end;
+    read = subst (λ b. IsLogFile b e.is.records e.is.end) (sym m.bytes) e.is.read;
+    each = e.is.each;
+  };
+}
+
 -- files of the same bytes have the same edits
 pub edits_same : (store : List ℕ) (old new : Files) (edits : List Edit)
     → ((path : List ℕ) → SameBytes (old path) (new path)) → HasEdits store old edits
     → HasEdits store new edits
-edits_same store old new edits same e =
-    let c = found_again (old (current_path store)) (new (current_path store)) e.current
-    (same (current_path store)) e.current_there in
-    let m = found_again (old (in_folder store e.name)) (new (in_folder store e.name)) e.manifest
-    (same (in_folder store e.name)) e.there in
-    record {
-      current = c.now;
-      current_there = c.there;
-      name = e.name;
-      number = e.number;
-      named = subst (λ b. IsCurrentText b e.name e.number) (sym c.bytes) e.named;
-      manifest = m.now;
-      there = m.there;
-      is = record {
-        records = e.is.records;
-        end = e.is.end;
-        read = subst (λ b. IsLogFile b e.is.records e.is.end) (sym m.bytes) e.is.read;
-        each = e.is.each;
-      };
-    }
+edits_same store old new edits same e = edits_again store old new edits e
+    (found_again (old (current_path store)) (new (current_path store)) e.current
+    (same (current_path store)) e.current_there)
+    (found_again (old (in_folder store e.name)) (new (in_folder store e.name)) e.manifest
+    (same (in_folder store e.name)) e.there)
 
 module _ (store : List ℕ) (cmp : List ℕ → List ℕ → Ordering)
     (IsTableOf : List ℕ → List Pair → Type 0) where

@@ -80,7 +80,7 @@ tables_same store n before after same k = same (table_path store k) (log_is_no_t
 same_entries : (these those : List Entry) → these ≡ those → SameEntries these those
 same_entries these those e = λ entry. (subst (λ es. Contains es entry) e, subst (λ es. Contains es entry) (sym e))
 
--- where none waited, what was recent may wait
+-- where there was no immutable memtable, the memtable may become it
 waits_shown : (cmp : List ℕ → List ℕ → Ordering) (before after : EngineMemory) (tables : List LiveTable) (history : History) (from : ℕ) → before.imm ≡ [] → after.mem ≡ [] → after.imm ≡ before.mem
     → ShowsHistory cmp before tables history from → ShowsHistory cmp after tables history from
 waits_shown cmp before after tables history from none empty waits s = record {

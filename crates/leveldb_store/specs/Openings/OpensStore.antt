@@ -193,7 +193,7 @@ module _ (store : List ℕ) where
     IsForbidden = (IsTrue error_if_exists × (files (current_path store) ≢ None))
         ⊎ ((create_if_missing ≡ false) × (files (current_path store) ≡ None))
 
--- the options forbid it, and this is how that is told
+-- the options forbid it, and the status says so
 abbrev pub IsForbiddenAs : Bool → List ℕ → Bool → Bool → Files → Status → Type 0
 IsForbiddenAs models_disk store create_if_missing error_if_exists files status =
     ((status.code ≡ AlreadyExists) × IsTrue error_if_exists

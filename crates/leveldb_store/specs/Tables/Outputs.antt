@@ -35,8 +35,8 @@ pub record OutputsValue (E C FP F : Type 0) : Type 0 where
 abbrev pub no_outputs : {E C FP F : Type 0} → OutputsValue E C FP F
 no_outputs = record { unfinished = None; ends = false; done = [] }
 
--- The open table is to end before this key: it is past the limit, or is told to end, and its last
--- key is of another user key.
+-- The open table is to end before this key: it is past the limit, or `end_table` asked for its end,
+-- and its last key is of another user key.
 abbrev pub is_due_in : {E C FP F : Type 0} → ℕ → List ℕ → Bool → Option (TableFile E C FP F) → Bool
 is_due_in limit key ends None = false
 is_due_in limit key ends (Some table) =

@@ -1,5 +1,5 @@
 -- What making room in the memtable returns and leaves, and why it fails; and deletions whose
--- failures are told to a sink alone.
+-- failures are a line for a sink, and no error.
 use Rattle.std.specs.Prelude.{◌≡◌, ◌≢◌, ◌≤◌, ◌<◌, ◌-◌, ◌^◌, ◌⊎◌, ℕ, List, [], Option, None, Some, Result, Ok, Err, IfErr, OnErr, OnOk, IsTrue, is_some, map}
 use Rattle.std.specs.declared.cmp.Ordering.{Ordering}
 use Rattle.leveldb_base.specs.Entries.{internal_pair}
@@ -33,7 +33,7 @@ pub record FailsFor {T : Type 0} (Excused : Status → Type 0) (before after : �
   pub later : before ≤ after
   pub cause : IfErr result (λ e. Excused e ⊎ HasFailed before after)
 
--- nothing but the sink of the options' log has changed, to which lines may have been told
+-- nothing but the sink of the options' log has changed, which may have been given lines
 pub record ChangesLoggerOnly {C FP : Type 0} {B : Boxed} (before after : OptionsOf C FP B)
     : Type 0 where
   pub rest : after ≡ record before { log = after.log }

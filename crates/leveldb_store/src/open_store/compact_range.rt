@@ -92,7 +92,7 @@ impl<E: Env, C: UserCmp + Copy + Drop> OpenStore<E, C> {
         deepest
     }
 
-    // Makes tables of the entries that wait, and of those of the memtable.
+    // Makes tables of the entries of the immutable memtable and of the memtable.
     fn compact_memtables<FP: FilterPolicy + Copy + Drop>(
         &mut self,
         env: &mut E,

@@ -6,9 +6,9 @@ use Rattle.leveldb_base.specs.Names.{file_name}
 use Rattle.leveldb_base.specs.Types.{Pair}
 use Rattle.leveldb_base.specs.declared.types.FileType.TheVariants.{Log}
 use Rattle.leveldb_env.specs.Env.{Files, FilesCrashTo}
-use Rattle.leveldb_files.proofs.Stores.KeptLemmas.{kept_left}
+use Rattle.leveldb_files.proofs.Stores.KeptLemmas.{kept_left, tables_left}
 use Rattle.leveldb_files.proofs.Stores.LogsLemmas.{PartsAt, batches_parts, entries_parts, order_above, order_after, order_low, parts_at}
-use Rattle.leveldb_files.proofs.Stores.ManagedLemmas.{log_on, tables_on}
+use Rattle.leveldb_files.proofs.Stores.ManagedLemmas.{log_on}
 use Rattle.leveldb_files.proofs.Histories.NumbersLemmas.{up_to_greatest}
 use Rattle.leveldb_files.proofs.Stores.OneStoreLemmas.{tables_in}
 use Rattle.leveldb_files.proofs.Histories.SafeLemmas.{some_is}
@@ -18,11 +18,11 @@ use Rattle.leveldb_files.proofs.Histories.ViewsLemmas.{greatest_most, same_sets,
 use Rattle.leveldb_files.specs.Stores.Batches.{AreInOrder, all_entries}
 use Rattle.leveldb_files.specs.Stores.Contents.{Contents}
 use Rattle.leveldb_files.specs.Levels.Levels.{LiveTable, table_entries}
-use Rattle.leveldb_files.specs.Stores.Paths.{log_path, table_path}
+use Rattle.leveldb_files.specs.Stores.Paths.{log_path}
 use Rattle.leveldb_files.specs.Stores.Store.{HasLog, HasTables, IsManagedBy, LogIsReplayed, OneTableReading, ReplayedLog, SameEntries, contents_of, log_batches, log_entries}
-use Rattle.leveldb_files.specs.Steps.StoreSteps.{Refines, TablesAreKept}
+use Rattle.leveldb_files.specs.Steps.StoreSteps.{Refines}
 use Rattle.leveldb_files.specs.Edits.Edit.{Edit}
-use Rattle.leveldb_files.specs.Edits.VersionSet.{FileSet, live_after}
+use Rattle.leveldb_files.specs.Edits.VersionSet.{live_after}
 use Rattle.leveldb_version.specs.Compactions.Replacing.{ReplacesTables, ReplacingRefines, SwapsReplace, SwitchesReplace}
 use Rattle.std.proofs.Common.{◌++◌, ◌∙◌, ◌∷◌, ◌≡◌, ◌≤◌, ◌<◌, ◌^◌, List, None, Some, [], ap, append-nil, arith, inl, inr, refl, subst, sym, ℕ, ⊎_elim}
 use Rattle.std.proofs.lemmas.List.Concat.{flat_map-append}
@@ -41,17 +41,6 @@ each_in_both a b x y left right e c = ⊎_elim
 
 module _ (store : List ℕ) (cmp : List ℕ → List ℕ → Ordering)
     (IsTableOf : List ℕ → List Pair → Type 0) (one : OneTableReading IsTableOf) where
-  -- kept tables are there after a crash
-  tables_after_crash : (files left : Files) (set : FileSet) (tables : List LiveTable)
-      → TablesAreKept store files set → FilesCrashTo files left
-      → HasTables store cmp IsTableOf files set tables
-      → HasTables store cmp IsTableOf left set tables
-  tables_after_crash files left set tables kept leaves has =
-      tables_on store cmp IsTableOf set files left tables
-      (λ file fits live.
-      kept_left (files (table_path store file.number)) (left (table_path store file.number))
-      (kept file fits live) (leaves (table_path store file.number))) has
-
   module _ (bound : ℕ) (files : Files) (edits : List Edit) (edit : Edit)
       (s :
       ReplacesTables store cmp IsTableOf bound files (live_after edits)
@@ -135,7 +124,7 @@ module _ (store : List ℕ) (cmp : List ℕ → List ℕ → Ordering)
     -- ---- the tables
 
     has_before : HasTables store cmp IsTableOf left (live_after edits) s.before
-    has_before = tables_after_crash files left (live_after edits) s.before s.has_before.kept leaves
+    has_before = tables_left store cmp IsTableOf files left (live_after edits) s.before s.has_before.kept leaves
         s.has_before.has
 
     tables_were : (entry : Entry) → Contains (table_entries m.tables) entry
@@ -216,7 +205,7 @@ module _ (store : List ℕ) (cmp : List ℕ → List ℕ → Ordering)
       last_is = s.last.new_last;
       numbers_fit = edit_fits bound edits edit s.last m.numbers_fit;
       tables = s.after;
-      has_tables = tables_after_crash files left (live_after (edits ++ edit ∷ [])) s.after
+      has_tables = tables_left store cmp IsTableOf files left (live_after (edits ++ edit ∷ [])) s.after
           s.has_after.kept leaves s.has_after.has;
       logs = p.back;
       has_logs = record {

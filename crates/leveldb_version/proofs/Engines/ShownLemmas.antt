@@ -111,7 +111,7 @@ module _ (store : List ℕ) (cmp : List ℕ → List ℕ → Ordering)
         imm_in_logs store cmp IsTableOf files edits memory w entry waits)
         (Contains-append_cases memory.mem memory.imm entry c)
 
-    -- those that wait are below the recent ones
+    -- the entries of the immutable memtable are older than those of the memtable
     imm_older : IsOlder memory.imm memory.mem
     imm_older a b in_a in_b same_key =
         let low = up_to_greatest (log_entries p.front) a in_front in

@@ -124,37 +124,41 @@ module _ {format : Format} {meaning : Meaning} (agrees : Agrees format meaning) 
         let same = blocks_one (has_one_block meaning.codings is_there (block_more there)) opens.meta_block block in
         absurd (none filters (subst (λ ms. HasFiltersBy bytes (lookup (bytes_eq key) ms) filters) same opens.filtered))
 
+  -- ---- the data blocks by their lines
+
+  module _ {accepts : List ℕ → Bool} {cmp : List ℕ → List ℕ → Ordering} {bytes : List ℕ}
+      {parts : List Part} (has : HasParts meaning.codings accepts cmp bytes parts) where
+    -- a data block with the line of this number
+    pub record AtLine (i : ℕ) : Type 0 where
+      pub part : Part
+      pub there : slice_get parts i ≡ Some part
+      pub is : IsPart (Decodes meaning.codings) cmp bytes part
+
+    pub at_line : (i : ℕ) (line : Pair) → pair_at (map index_pair parts) (Some i) ≡ Some line → (at : AtLine i) × (line ≡ index_pair at.part)
+    at_line i line is =
+        let part = part_at parts i line is in
+        (record { part = part.0; there = part.1; is = all_at (IsPart (Decodes meaning.codings) cmp bytes) parts i part.0 part.1 has.each }, part.2)
+
+    pub named_handle : (i : ℕ) (handle : Handle) → IsSomeAnd (pair_at (map index_pair parts) (Some i)) (λ pair. pair.1 ≡ handle_bytes handle) → (at : AtLine i) × (handle ≡ at.part.handle)
+    named_handle i handle names =
+        let line = value_of (λ (pair : Pair). pair.1 ≡ handle_bytes handle) (pair_at (map index_pair parts) (Some i)) names in
+        let at = at_line i line.0 line.1 in
+        (at.0, same_handle handle at.0.part.handle (sym line.2 ∙ ap (λ (z : Pair). z.1) at.1))
+
+    -- the block that a line leads to is that data block
+    pub line_pairs : (i : ℕ) (pairs : List Pair) → HasLine format.codings cmp bytes (map index_pair parts) i pairs → (at : AtLine i) × (pairs ≡ at.part.pairs)
+    line_pairs i pairs line =
+        let at = at_line i (line.named.key, handle_bytes line.named.handle) line.named.names in
+        let handle = same_handle line.named.handle at.0.part.handle (ap (λ (z : Pair). z.1) at.1) in
+        let text = has_one_block meaning.codings (subst (λ h. HasBlockAt (Decodes meaning.codings) bytes h line.text) handle (block_more line.named.is_there)) at.0.is.is_there in
+        (at.0, blocks_one text line.block at.0.is.block)
+
   -- ---- a look-up
 
   module _ {accepts : List ℕ → Bool} {cmp : List ℕ → List ℕ → Ordering} (order : IsPreorderOn accepts cmp) {bytes : List ℕ} {parts : List Part} (has : HasParts meaning.codings accepts cmp bytes parts)
       (may_contain : ℕ → List ℕ → Bool) (key : List ℕ) (fit : accepts key ≡ true) where
     abbrev lines : List Pair
     lines = map index_pair parts
-
-    -- a data block with the line of this number
-    record AtLine (i : ℕ) : Type 0 where
-      pub part : Part
-      pub there : slice_get parts i ≡ Some part
-      pub is : IsPart (Decodes meaning.codings) cmp bytes part
-
-    at_line : (i : ℕ) (line : Pair) → pair_at lines (Some i) ≡ Some line → (at : AtLine i) × (line ≡ index_pair at.part)
-    at_line i line is =
-        let part = part_at parts i line is in
-        (record { part = part.0; there = part.1; is = all_at (IsPart (Decodes meaning.codings) cmp bytes) parts i part.0 part.1 has.each }, part.2)
-
-    named_handle : (i : ℕ) (handle : Handle) → IsSomeAnd (pair_at lines (Some i)) (λ pair. pair.1 ≡ handle_bytes handle) → (at : AtLine i) × (handle ≡ at.part.handle)
-    named_handle i handle names =
-        let line = value_of (λ (pair : Pair). pair.1 ≡ handle_bytes handle) (pair_at lines (Some i)) names in
-        let at = at_line i line.0 line.1 in
-        (at.0, same_handle handle at.0.part.handle (sym line.2 ∙ ap (λ (z : Pair). z.1) at.1))
-
-    -- the block that a line leads to is that data block
-    line_pairs : (i : ℕ) (pairs : List Pair) → HasLine format.codings cmp bytes lines i pairs → (at : AtLine i) × (pairs ≡ at.part.pairs)
-    line_pairs i pairs line =
-        let at = at_line i (line.named.key, handle_bytes line.named.handle) line.named.names in
-        let handle = same_handle line.named.handle at.0.part.handle (ap (λ (z : Pair). z.1) at.1) in
-        let text = has_one_block meaning.codings (subst (λ h. HasBlockAt (Decodes meaning.codings) bytes h line.text) handle (block_more line.named.is_there)) at.0.is.is_there in
-        (at.0, blocks_one text line.block at.0.is.block)
 
     -- ---- what is found
 
@@ -181,7 +185,7 @@ module _ {format : Format} {meaning : Meaning} (agrees : Agrees format meaning) 
         → pair_at new.pairs new.inner ≡ pair_at (pairs_in parts) position
     found_after new None after is nowhere = ap (pair_at new.pairs) nowhere.1 ∙ sym (ap (pair_at (pairs_in parts)) (after_end after is))
     found_after {position = position} new (Some k) after is into =
-        let at = line_pairs k new.pairs into.block in
+        let at = line_pairs has k new.pairs into.block in
         let first : position_within new.pairs 0 ≡ Some 0 = position_in new.pairs 0 (some_long new.pairs into.some) in
         ap (pair_at new.pairs) (into.position ∙ first) ∙ ap (λ ps. pair_at ps (Some 0)) at.1
         ∙ current_at parts (Some k) at.0.part.pairs (Some 0) position (to_block after k at.0.part is at.0.there at.0.is.some)
@@ -191,11 +195,11 @@ module _ {format : Format} {meaning : Meaning} (agrees : Agrees format meaning) 
         some_long (x ∷ xs) some = omega arith
 
     -- the first pair at or after the key in this line's block, or that of the line after
-    found_in_block : (i : ℕ) (at : AtLine i) (new : TablePosition) → seek_position cmp lines key ≡ Some i → ToKeyInBlock format.codings cmp bytes lines key i (Ok new) → pair_at new.pairs new.inner ≡ sought
+    found_in_block : (i : ℕ) (at : AtLine has i) (new : TablePosition) → seek_position cmp lines key ≡ Some i → ToKeyInBlock format.codings cmp bytes lines key i (Ok new) → pair_at new.pairs new.inner ≡ sought
     found_in_block i at new named to = by (seek_position cmp to.pairs key) refl to.outcome
       where
-        other : (at : AtLine i) × (to.pairs ≡ at.part.pairs)
-        other = line_pairs i to.pairs to.block
+        other : (at : AtLine has i) × (to.pairs ≡ at.part.pairs)
+        other = line_pairs has i to.pairs to.block
 
         by : (o : Option ℕ) → seek_position cmp to.pairs key ≡ o
             → InsideOr o (record { line = Some i; pairs = to.pairs; inner = None }) (Ok new) (ToFirstPair format.codings cmp bytes lines (next_position lines (Some i)) (Ok new)) → pair_at new.pairs new.inner ≡ sought
@@ -210,7 +214,7 @@ module _ {format : Format} {meaning : Meaning} (agrees : Agrees format meaning) 
             (seek_after order has.parted has.accepted key fit (parts_some has) i other.0.part named other.0.there (ap (λ ps. seek_position cmp ps key) (sym other.1) ∙ none)) refl after
 
     -- as the filters let the key pass
-    found_if_let : (i : ℕ) (at : AtLine i) (new : TablePosition) (b : Bool) → seek_position cmp lines key ≡ Some i → may_contain at.part.handle.offset key ≡ b → ToKeyByLineIfLet format.codings cmp bytes lines b key i (Ok new)
+    found_if_let : (i : ℕ) (at : AtLine has i) (new : TablePosition) (b : Bool) → seek_position cmp lines key ≡ Some i → may_contain at.part.handle.offset key ≡ b → ToKeyByLineIfLet format.codings cmp bytes lines b key i (Ok new)
         → pair_at new.pairs new.inner ≡ found_in cmp may_contain key parts
     found_if_let i at new b named is to = by b is to
       where
@@ -231,7 +235,7 @@ module _ {format : Format} {meaning : Meaning} (agrees : Agrees format meaning) 
         by None none nowhere =
             ap (pair_at new.pairs) nowhere.1 ∙ sym (ap (pair_at (pairs_in parts)) (let_none cmp may_contain key parts none)) ∙ found_at cmp may_contain key parts
         by (Some i) named line =
-            let at = named_handle i line.handle line.names in
+            let at = named_handle has i line.handle line.names in
             found_if_let i at.0 new (may_contain at.0.part.handle.offset key) named refl
             (subst (λ (h : Handle). ToKeyByLineIfLet format.codings cmp bytes lines (may_contain h.offset key) key i (Ok new)) at.1 line.outcome)
 
@@ -243,17 +247,17 @@ module _ {format : Format} {meaning : Meaning} (agrees : Agrees format meaning) 
         by : (o : Option Pair) → pair_at lines (Some i) ≡ o → LacksLine format.codings cmp bytes o status → Wants status
         by None is none = absurd (lacks_some none)
         by (Some line) is (unnamed none code) =
-            let at = at_line i line is in
+            let at = at_line has i line is in
             absurd (none at.0.part.handle at.0.is.is_there.is_there.fits (ap (λ (z : Pair). z.1) at.1))
         by (Some line) is (lacking handle names block) =
-            let at = at_line i line is in
+            let at = at_line has i line is in
             let same = same_handle handle at.0.part.handle (sym names ∙ ap (λ (z : Pair). z.1) at.1) in
             lacks_block at.0.is.is_there at.0.is.block (subst (λ h. LacksBlock format.codings cmp bytes h status) same block)
 
     lacks_after : (status : Status) (next : Option ℕ) → ToFirstPair format.codings cmp bytes lines next (Err status) → Wants status
     lacks_after status None nowhere = absurd nowhere
     lacks_after status (Some k) (inl line) = lacks_line k status line
-    lacks_after status (Some k) (inr empty) = let at = line_pairs k [] empty.0 in absurd (at.0.is.some (sym at.1))
+    lacks_after status (Some k) (inr empty) = let at = line_pairs has k [] empty.0 in absurd (at.0.is.some (sym at.1))
 
     lacks_in_block : (i : ℕ) (status : Status) → ToKeyInBlock format.codings cmp bytes lines key i (Err status) → Wants status
     lacks_in_block i status to = by (seek_position cmp to.pairs key) to.outcome
@@ -275,6 +279,6 @@ module _ {format : Format} {meaning : Meaning} (agrees : Agrees format meaning) 
         by None nowhere = absurd nowhere
         by (Some i) (inl none) =
             let line = value_of (λ (pair : Pair). (handle : Handle) → HandleFits handle → pair.1 ≡ handle_bytes handle → ⊥) (pair_at lines (Some i)) none.0 in
-            let at = at_line i line.0 line.1 in
+            let at = at_line has i line.0 line.1 in
             absurd (line.2 at.0.part.handle at.0.is.is_there.is_there.fits (ap (λ (z : Pair). z.1) at.1))
         by (Some i) (inr line) = by_let i (may_contain line.handle.offset key) line.outcome

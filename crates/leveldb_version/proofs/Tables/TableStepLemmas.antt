@@ -1,6 +1,6 @@
 -- Where a step by the compressors of a format leads in a table that is one by what its ids mean,
 -- and why it fails there.
-use Rattle.std.specs.Prelude.{◌≢◌, IsSomeAnd, slice_get}
+use Rattle.std.specs.Prelude.{◌≢◌}
 use Rattle.std.proofs.Common.{◌≡◌, inl, inr, ℕ, zero, suc, ◌+◌, ◌-◌, ◌<◌, if◌then◌else◌, nat_lt, Bool, true, List, [], ◌∷◌, ◌++◌, length, map, Option, None, Some, Ok, Err, refl, sym, ◌∙◌, ap, subst, arith}
 use Rattle.std.proofs.lemmas.Bool.Decides.{nat_tests}
 use Rattle.std.proofs.lemmas.List.{length-append, length-map}
@@ -10,21 +10,18 @@ use Rattle.leveldb_base.specs.Cmp.{IsPreorderOn, internal_accepts}
 use Rattle.leveldb_base.specs.Types.{Pair, last_position, next_position, pair_at, position_within, previous_position, seek_position}
 use Rattle.leveldb_base.specs.declared.cmp.Cmp.{Ghosts as CmpGhosts}
 use Rattle.leveldb_base.specs.declared.error.Status.{Status}
-use Rattle.leveldb_env.specs.Compressor.{Decodes}
-use Rattle.leveldb_table.proofs.TableLemmas.{has_one_block}
-use Rattle.leveldb_table.proofs.TableReaderLemmas.{blocks_one}
-use Rattle.leveldb_table.proofs.TableReaderWalkLemmas.{after_none, all_at, is_there_along, last_block, last_of_none, pairs_cut, part_at, parts_some, position_in, position_none, position_out, previous_block, same_handle, seek_after, seek_in, seek_none, to_block}
+use Rattle.leveldb_table.proofs.TableReaderWalkLemmas.{after_none, is_there_along, last_block, last_of_none, pairs_cut, parts_some, position_in, position_none, position_out, previous_block, seek_after, seek_in, seek_none, to_block}
 use Rattle.leveldb_table.specs.BlockWalk.{pairs_over, position_over}
-use Rattle.leveldb_table.specs.Table.{HasBlockAt, IsPart, Part, index_pair}
+use Rattle.leveldb_table.specs.Table.{Part, index_pair}
 use Rattle.leveldb_table.specs.TableBlock.{LacksBlock, LacksLine, lacking, unnamed}
 use Rattle.leveldb_table.specs.TableReader.{HasParts, pairs_in}
 use Rattle.leveldb_table.specs.TableReaderBlocks.{IsAfterLine, IsBeforeBlock, IsIndexed}
-use Rattle.leveldb_table.specs.TableReaderMoves.{HasLine, InsideOr, ToBlock, ToFirstPair, ToKeyByLine, ToLastPair}
+use Rattle.leveldb_table.specs.TableReaderMoves.{InsideOr, ToBlock, ToFirstPair, ToKeyByLine, ToLastPair}
 use Rattle.leveldb_table.specs.TableReaderSteps.{step_to}
 use Rattle.leveldb_table.specs.TableReaderWalk.{IsAtPair, IsAtPairOrNone, TablePlace, TablePosition}
 use Rattle.leveldb_table.specs.declared.table_reader.walk.TableStep.{TableStep}
 use Rattle.leveldb_table.specs.declared.table_reader.walk.TableStep.TheVariants.{First, Last, NextBlock, BlockBefore, Seek}
-use Rattle.leveldb_version.proofs.Tables.ReadTableLemmas.{Wants, block_more, lacks_block, same_outcome, value_of}
+use Rattle.leveldb_version.proofs.Tables.ReadTableLemmas.{AtLine, Wants, at_line, lacks_block, line_pairs, named_handle, same_outcome, value_of}
 use Rattle.leveldb_files.specs.Stores.Format.{Agrees, Format, Meaning}
 use Rattle.leveldb_files.specs.Stores.Store.{any_user_key}
 use Rattle.leveldb_version.specs.Tables.TableMoves.{IsLedTo}
@@ -64,31 +61,6 @@ module _ {format : Format} {meaning : Meaning} (agrees : Agrees format meaning) 
   abbrev lines : List Pair
   lines = map index_pair parts
 
-  -- a data block with the line of this number
-  record AtLine (i : ℕ) : Type 0 where
-    pub part : Part
-    pub there : slice_get parts i ≡ Some part
-    pub is : IsPart (Decodes meaning.codings) cmp bytes part
-
-  at_line : (i : ℕ) (line : Pair) → pair_at lines (Some i) ≡ Some line → (at : AtLine i) × (line ≡ index_pair at.part)
-  at_line i line is =
-      let part = part_at parts i line is in
-      (record { part = part.0; there = part.1; is = all_at (IsPart (Decodes meaning.codings) cmp bytes) parts i part.0 part.1 has.each }, part.2)
-
-  named_handle : (i : ℕ) (handle : Handle) → IsSomeAnd (pair_at lines (Some i)) (λ pair. pair.1 ≡ handle_bytes handle) → (at : AtLine i) × (handle ≡ at.part.handle)
-  named_handle i handle names =
-      let line = value_of (λ (pair : Pair). pair.1 ≡ handle_bytes handle) (pair_at lines (Some i)) names in
-      let at = at_line i line.0 line.1 in
-      (at.0, same_handle handle at.0.part.handle (sym line.2 ∙ ap (λ (z : Pair). z.1) at.1))
-
-  -- the block that a line leads to is that data block
-  line_pairs : (i : ℕ) (pairs : List Pair) → HasLine format.codings cmp bytes lines i pairs → (at : AtLine i) × (pairs ≡ at.part.pairs)
-  line_pairs i pairs line =
-      let at = at_line i (line.named.key, handle_bytes line.named.handle) line.named.names in
-      let handle = same_handle line.named.handle at.0.part.handle (ap (λ (z : Pair). z.1) at.1) in
-      let text = has_one_block meaning.codings (subst (λ h. HasBlockAt (Decodes meaning.codings) bytes h line.text) handle (block_more agrees line.named.is_there)) at.0.is.is_there in
-      (at.0, blocks_one text line.block at.0.is.block)
-
   -- ---- where it leads
 
   -- where no line follows, no pair does
@@ -113,7 +85,7 @@ module _ {format : Format} {meaning : Meaning} (agrees : Agrees format meaning) 
       → IsAtPairOrNone parts new.line new.pairs new.inner position
   to_first from None position new after is nowhere = nowhere_at new (after_end after is) nowhere.1
   to_first from (Some k) position new after is into =
-      let at = line_pairs k new.pairs into.block in
+      let at = line_pairs agrees has k new.pairs into.block in
       let first : position_within new.pairs 0 ≡ Some 0 = position_in new.pairs 0 (some_long new.pairs into.some) in
       is_there_along parts position into.at_line at.1 (into.position ∙ first) (to_block after k at.0.part is at.0.there at.0.is.some)
 
@@ -121,7 +93,7 @@ module _ {format : Format} {meaning : Meaning} (agrees : Agrees format meaning) 
   to_last : (line : Option ℕ) (new : TablePosition) → last_position lines ≡ line → ToLastPair format.codings cmp bytes lines line (Ok new) → IsAtPairOrNone parts new.line new.pairs new.inner (last_position (pairs_in parts))
   to_last None new is nowhere = nowhere_at new (last_of_none parts is) nowhere.1
   to_last (Some i) new is into =
-      let at = line_pairs i new.pairs into.block in
+      let at = line_pairs agrees has i new.pairs into.block in
       let last = last_some_of at.0.part.pairs at.0.is.some in
       is_there_along parts (last_position (pairs_in parts)) into.at_line at.1 (into.position ∙ ap last_position at.1 ∙ last.1) (last_block parts i at.0.part last.0 is at.0.there last.1)
 
@@ -130,7 +102,7 @@ module _ {format : Format} {meaning : Meaning} (agrees : Agrees format meaning) 
       → IsAtPairOrNone parts new.line new.pairs new.inner position
   to_previous from None position new before is nowhere = nowhere_at new (before.to ∙ no_previous before.is_there before.first is) nowhere.1
   to_previous from (Some i) position new before is into =
-      let at = line_pairs i new.pairs into.block in
+      let at = line_pairs agrees has i new.pairs into.block in
       let last = last_some_of at.0.part.pairs at.0.is.some in
       subst (λ z. IsAtPairOrNone parts new.line new.pairs new.inner z) (sym before.to)
       (is_there_along parts (previous_position (Some before.n)) into.at_line at.1 (into.position ∙ ap last_position at.1 ∙ last.1) (previous_block before.is_there before.first i at.0.part last.0 is at.0.there last.1))
@@ -141,8 +113,8 @@ module _ {format : Format} {meaning : Meaning} (agrees : Agrees format meaning) 
   to_key key fit None new is nowhere = nowhere_at new (seek_none order has.parted has.accepted key fit is) nowhere.1
   to_key key fit (Some i) new is to = by (seek_position cmp to.pairs key) refl to.outcome
     where
-      at : (at : AtLine i) × (to.pairs ≡ at.part.pairs)
-      at = line_pairs i to.pairs to.block
+      at : (at : AtLine agrees has i) × (to.pairs ≡ at.part.pairs)
+      at = line_pairs agrees has i to.pairs to.block
 
       by : (o : Option ℕ) → seek_position cmp to.pairs key ≡ o
           → InsideOr o (record { line = Some i; pairs = to.pairs; inner = None }) (Ok new) (ToFirstPair format.codings cmp bytes lines (next_position lines (Some i)) (Ok new))
@@ -161,17 +133,17 @@ module _ {format : Format} {meaning : Meaning} (agrees : Agrees format meaning) 
   line_wants : (i : ℕ) (status : Status) → LacksLine format.codings cmp bytes (pair_at lines (Some i)) status → Wants agrees status
   line_wants i status (unnamed none code) =
       let line = value_of (λ (pair : Pair). (handle : Handle) → HandleFits handle → pair.1 ≡ handle_bytes handle → ⊥) (pair_at lines (Some i)) none in
-      let at = at_line i line.0 line.1 in
+      let at = at_line agrees has i line.0 line.1 in
       absurd (line.2 at.0.part.handle at.0.is.is_there.is_there.fits (ap (λ (z : Pair). z.1) at.1))
   line_wants i status (lacking handle names lacks) =
-      let at = named_handle i handle names in
+      let at = named_handle agrees has i handle names in
       lacks_block agrees at.0.is.is_there at.0.is.block (subst (λ h. LacksBlock format.codings cmp bytes h status) at.1 lacks)
 
   block_wants : (to : List Pair → Option ℕ) (line : Option ℕ) (status : Status) → ToBlock format.codings cmp bytes lines to line (Err status) → Wants agrees status
   block_wants to None status nowhere = absurd nowhere
   block_wants to (Some i) status (inl lacks) = line_wants i status lacks
   block_wants to (Some i) status (inr (empty, code)) =
-      let at = line_pairs i [] empty in absurd (at.0.is.some (sym at.1))
+      let at = line_pairs agrees has i [] empty in absurd (at.0.is.some (sym at.1))
 
   key_wants : (key : List ℕ) (line : Option ℕ) (status : Status) → ToKeyByLine format.codings cmp bytes lines key line (Err status) → Wants agrees status
   key_wants key None status nowhere = absurd nowhere

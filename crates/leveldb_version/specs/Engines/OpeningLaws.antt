@@ -29,8 +29,8 @@ module _ (store : List ℕ) (cmp : List ℕ → List ℕ → Ordering)
     (IsTableOf : List ℕ → List Pair → Type 0) where
   -- ---- a store is recovered
 
-  -- Whether a set that was recovered goes on with the manifest that was read or starts anew, it
-  -- tracks the store.
+  -- Whether a set that was recovered goes on with the manifest that was read or begins a new one,
+  -- it tracks the store.
   pub record RecoveredIsTracked (old : VersionSetValue) (manifest : ReadManifest) (files : Files)
       : Type 0 where
     pub goes_on : (reuse : Bool) (limit : ℕ) → IsReusable reuse limit manifest

@@ -125,7 +125,7 @@ pub record BeginsManifest (models_disk : Bool) (old : VersionSetValue)
       (IsOutOfMemory status × (new ≡ old)
       × (IsTrue models_disk → after.disk.files ≡ before.disk.files))
       ⊎ (new ≡ record old { manifest = broken }))
-  -- an Err is out of memory, or a failure was counted; or, where no disk is told, the temporary
+  -- an Err is out of memory, or a failure was counted; or, where no disk is observed, the temporary
   -- file is missing that was just made
   pub cause : HasCause (IsLostUnobserved models_disk (temp_path old.store old.manifest_number)
       failed now_failed) failed now_failed result

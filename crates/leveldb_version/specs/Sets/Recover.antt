@@ -175,8 +175,8 @@ pub record HasRecordOfNoEdit (store : List ℕ) (files : Files) (name : List ℕ
 module _ (models_disk : Bool) (cmp : List ℕ → List ℕ → Ordering) (comparator : List ℕ)
     (reuse : Bool) (limit : ℕ) where
   -- The manifest that was read has edits that a store may begin with, and the set is what they
-  -- leave. It goes on with the manifest, which is synced; or it starts anew, and the answer says
-  -- so.
+  -- leave. It goes on with the manifest, which is synced; or it is to begin a new one, and `anew`
+  -- says so.
   pub record Recovers (old : VersionSetValue) (before : Observed) (anew : Bool)
       (new : VersionSetValue) (after : Observed) : Type 0 where
     pub manifest : ReadManifest

@@ -34,7 +34,7 @@ GoingOnIsTracked = (cmp : List ℕ → List ℕ → Ordering) (comparator : List
     → Tracks (synced (in_folder old.store manifest.name) files) manifest.edits
     (set_going_on old manifest)
 
--- so does one that starts anew
+-- So does one that is to begin a new manifest.
 abbrev pub StartingAnewIsTracked : Type 0
 StartingAnewIsTracked = (cmp : List ℕ → List ℕ → Ordering) (comparator : List ℕ)
     (old : VersionSetValue) (manifest : ReadManifest) (files : Files)

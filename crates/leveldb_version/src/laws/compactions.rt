@@ -22,7 +22,7 @@ pub fn compactions_keep_levels_and_views()
     ensures { CompactionsKeepViews }
 {}
 
-/// A key that is in the range of no deeper file is in no deeper table, and a test tells it.
+/// A key that is in the range of no deeper file is in no deeper table, and a test finds that out.
 pub fn ranges_tell_base_levels()
     ensures tables { RangesTellBaseLevel }
     ensures test { TestTellsBaseLevel }
@@ -67,7 +67,7 @@ pub fn replaced_tables_show_the_same<F: StoreFormat>()
     ensures switches { (store : List ℕ) → SwitchesReplace store F.cmp F.is_table }
 {}
 
-/// A compaction's edit may be logged once its outputs are kept, where no entries wait: every
+/// A compaction's edit may be logged once its outputs are kept, where `imm` has no entries: every
 /// history is kept at each moment, and the store is written on with the same memory. So may the
 /// edit that moves a table.
 pub fn compactions_are_logged<F: StoreFormat>()

@@ -12,7 +12,7 @@ pub fn full_edits_stay_full()
 {}
 
 /// A set that was recovered from a kept `CURRENT` and usable edits tracks the manifest, whether it
-/// goes on with it or starts anew.
+/// goes on with it or begins a new one.
 pub fn recovered_sets_are_tracked()
     ensures going_on { GoingOnIsTracked }
     ensures anew { StartingAnewIsTracked }

@@ -38,12 +38,12 @@ pub fn files_beside_an_open_store<F: StoreFormat>()
     ensures obsolete { (store : List ℕ) → ObsoleteFilesAreUnread store F.cmp F.is_table }
 {}
 
-/// A log is switched: the next one is made, and the entries of the one before wait.
+/// A log is switched: the next one is made, and the memtable of the one before is immutable.
 pub fn logs_may_be_switched<F: StoreFormat>()
     ensures { (store : List ℕ) → NewLogsAreWritten store F.cmp F.is_table F.allowed }
 {}
 
-/// The entries that wait go into a table, whose edit takes their logs away.
+/// The entries of the immutable memtable go into a table, whose edit takes their logs away.
 pub fn imm_entries_become_a_table<F: StoreFormat>()
     ensures edit { (store : List ℕ) → ImmBecomesTableByEdits store F.cmp F.is_table F.allowed }
     ensures level { (store : List ℕ) → ImmMayGoToLevelZero store F.cmp F.is_table }
@@ -60,7 +60,7 @@ pub fn open_stores_show_their_history<F: StoreFormat>()
     ensures { (store : List ℕ) → WrittenIsShown store F.cmp F.is_table F.allowed }
 {}
 
-/// What was shown is shown with a table in place of the entries that wait, and by other memory of
+/// What was shown is shown with a table in place of the immutable memtable, and by other memory of
 /// the same entries.
 pub fn tables_show_what_waited<F: StoreFormat>()
     ensures table { NewTableIsShown F.cmp }

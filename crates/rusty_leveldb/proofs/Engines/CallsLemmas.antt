@@ -52,7 +52,7 @@ broken_text : (err : Option (String Global))
 broken_text None is = inl refl
 broken_text (Some text) is = inr is
 
--- an engine that is open isn't halted
+-- an engine that is open is neither closed nor broken
 pub not_halted : (mode : machine.Mode) → mode ≡ machine.open_mode → IsClosedOrBroken mode → ⊥
 not_halted mode is = ⊎_elim
     (λ (closed : mode ≡ machine.closed).

@@ -187,7 +187,7 @@ only_write words none command.Close bytes e = other_heads 119 99 _ _ (λ h. omeg
 pub no_sync : (words : List ℕ) → ((sync : Bool) (text : List ℕ) → words ≢ sync_word sync ++ text) → IsNoLine (codes "write " ++ words)
 no_sync words none = only_write words (λ sync items bytes e. none sync (words_text item_word items) e)
 
--- what stands behind the word of a sync
+-- what comes after the word of a sync
 sync_behind : (sync other : Bool) (text rest : List ℕ) → sync_word sync ++ text ≡ sync_word other ++ rest → text ≡ rest
 sync_behind false false text rest e = ap tail_of e
 sync_behind false true text rest e = ap tail_of e
@@ -370,7 +370,7 @@ words_more {T = T} spell text words word more before one is parted spelled =
     ∙ sym (append_assoc (words_text spell before) (codes " " ++ spell one) (rest_text more))
     ∙ ap (λ (xs : List ℕ). xs ++ rest_text more) (flat_map_more (λ (i : T). codes " " ++ spell i) [] before one)
 
--- the first of what words spell, and the others
+-- the first of what words encode, and the others
 pub record FirstOf {T : Type 0} (spell : T → List ℕ) (HasBytes : T → Type 0) (word rest : List ℕ) : Type 0 where
   pub one : T
   pub others : List T

@@ -25,7 +25,7 @@ has_middle separator a c d e =
     let P : List ℕ → Type 0 = λ xs. Contains xs separator in
     subst P (sym e) (Contains-append_right c (separator ∷ d) separator (0, omega arith, refl))
 
--- what stands before the first of a byte in a text, and behind it, is one alone
+-- what is before the first of a byte in a text, and after it, is one alone
 pub same_front : (separator : ℕ) (a c b d : List ℕ) → (Contains a separator → ⊥) → (Contains c separator → ⊥)
     → a ++ separator ∷ b ≡ c ++ separator ∷ d → (a ≡ c) × (b ≡ d)
 same_front separator [] [] b d no_a no_c e = (refl, ap tail_of e)
@@ -55,7 +55,7 @@ no_separator separator (byte ∷ bytes) h no_dot no_digit found =
     let is : is_hex_digit separator ≡ true = subst P found.2 (digits found.0 separator found.1) in
     cc (sym no_digit ∙ is)
 
--- a full stop spells no bytes
+-- a full stop encodes no bytes
 pub dot_spells : (word bytes : List ℕ) → word ≡ codes "." → IsWord word bytes → [] ≡ bytes
 dot_spells word [] dot is = refl
 dot_spells word (byte ∷ bytes) dot is =
@@ -63,7 +63,7 @@ dot_spells word (byte ∷ bytes) dot is =
     let twice = length-encode_with lower_digits (byte ∷ bytes) in
     absurd (omega (arith, long, twice))
 
--- what another word spells is what its digits are
+-- what another word encodes is what its digits are
 spelled : (word bytes : List ℕ) → word ≢ codes "." → IsWord word bytes → decode_of word ≡ Ok bytes
 spelled word [] no_dot is = absurd (no_dot is.1)
 spelled word (byte ∷ bytes) no_dot is = ap decode_of is.1 ∙ decode_of-encode_lower (byte ∷ bytes) is.0

@@ -119,8 +119,8 @@ module _ {E C FP F : Type 0} {B : Boxed} where
       ((IsMemtableFull before → ⊥) × Gains before.store.mem.entries)
       ⊎ (IsMemtableFull before × Gains [])
 
-  -- no memtable waits to become a table, as the immutable one, or the one that did does, where the
-  -- one that is written to wasn't full
+  -- there is no immutable memtable; or it is the one that there was, where the memtable that is
+  -- written to wasn't full
   abbrev pub OneWaitsAtMost : EngineOf E C FP F B → EngineOf E C FP F B → Type 0
   OneWaitsAtMost before after = (after.store.imm ≡ None)
       ⊎ ((IsMemtableFull before → ⊥) × (after.store.imm ≡ before.store.imm))

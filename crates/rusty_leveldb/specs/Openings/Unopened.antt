@@ -40,8 +40,8 @@ MakesLockAlone store from to =
 
 -- ---- why it fails, and what it leaves
 
--- beside what the refusal tells, at least one more call of the device failed, or the count stands
--- at its greatest
+-- beside the cause of the refusal, at least one more call of the device failed, or the count of
+-- failures is at its greatest
 abbrev pub FailedBeside : Type 0 → ℕ → ℕ → Type 0
 FailedBeside excused before now = (excused × (before < now)) ⊎ (before + 2 ≤ now)
     ⊎ (now ≡ 2 ^ 64 - 1)

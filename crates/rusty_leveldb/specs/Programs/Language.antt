@@ -1,4 +1,4 @@
--- The command language of the program: one command a line. Each has one spelling, but for zeros
+-- The command language of the program: one command a line. Each has one encoding, but for zeros
 -- before a snapshot's number.
 use Rattle.std.specs.Prelude.{◌≡◌, ◌≢◌, ◌⊎◌, ◌+◌, ℕ, Bool, true, false, List, [], ◌∷◌, ◌++◌, length, flat_map, codes, decimal, Option, None, Some, All, Contains, Result, OnOk}
 use Rattle.std.specs.declared.alloc.AllocError.{AllocError}
@@ -131,11 +131,11 @@ abbrev pub IsReading : List ℕ → Script → Type 0
 IsReading text (script.Commands commands) = IsScript text commands.items
 IsReading text (script.BadLine number) = IsBadLine text number
 
--- the line that tells a refusal
+-- the line of a refusal
 abbrev pub refusal_line : StatusCode → List ℕ
 refusal_line code = codes "refused " ++ code_text code ++ codes "\n"
 
--- the line that tells where a move led
+-- the line that says where a move led
 abbrev pub step_line : Step → List ℕ
 step_line (step.At key value) =
     codes "at " ++ hex_word key.items ++ codes " " ++ hex_word value.items ++ codes "\n"

@@ -85,11 +85,18 @@ IsFault args input fault.TooLong = IsInputFault input fault.TooLong
 IsFault args input (fault.Unread status) = IsInputFault input (fault.Unread status)
 IsFault args input (fault.Refused status) = Unit {0}
 
+-- The program stopped for such a fault; and where the status is 2, it left the environment and its
+-- output as they were.
+abbrev pub StopsFor : {E O : Type 0} → List (String Global) → Option (List ℕ) → E → O → E → O
+    → Fault → Type 0
+StopsFor args input from out to written fault = IsFault args input fault
+    × (status_of fault ≡ 2 → (to ≡ from) × (written ≡ out))
+
 -- the program wasn't asked rightly
 abbrev pub IsMisasked : List (String Global) → Option (List ℕ) → Type 0
 IsMisasked args input = (why : Fault) × (status_of why ≡ 2) × IsFault args input why
 
--- the input spells these commands in at most 2^26 bytes, where its bytes are known
+-- the input is a text of these commands of at most 2^26 bytes, where its bytes are known
 abbrev pub IsInput : Option (List ℕ) → List Command → Type 0
 IsInput input commands = (text : List ℕ) × IfSome input (λ bytes. text ≡ bytes)
     × (length text ≤ 2 ^ 26) × IsScript text commands

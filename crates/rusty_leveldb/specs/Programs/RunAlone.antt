@@ -36,7 +36,7 @@ RefusesOthers (command.Get key) reply = Unit {0}
 RefusesOthers (command.Walk None moves) reply = Unit {0}
 RefusesOthers other reply = IsRefusedAlone reply
 
--- the reply tells what the machine answers to the request in this state, which stays
+-- the reply is of an answer that the machine gives to the request in this state, which stays
 abbrev pub TellsAnswer : Setting → State → Request → Reply → Type 0
 TellsAnswer setting state request reply =
     (answer : Answer) × IsReplyOf [] reply answer × Responds setting state request answer state

@@ -42,14 +42,14 @@ held_by (Err status) = []
 
 -- ---- one command
 
--- the reply tells this answer, and the snapshots that were given out are those of before
+-- the reply is of this answer, and no snapshot was given out
 abbrev pub IsTold : List HeldSnapshot → Answer → Reply → List HeldSnapshot → Type 0
 IsTold taken answer reply left = IsReplyOf (map snapshot_of taken) reply answer × (left ≡ taken)
 
 module _ {E C FP F P : Type 0} {B : Boxed} {keys : InternalOrder C} {key_filters : FilterGhosts P}
     (env : Ghosts E F) (choices : OptionsOf C FP B → TableChoices keys key_filters) where
-  -- Each command is that call of the engine, whose result the reply tells, where these snapshots
-  -- were given out before; and these are once it was replied to.
+  -- Each command is one call of the engine, and the reply is of its result. `taken` are the
+  -- snapshots that were given out before the command, and `left` those after it.
   abbrev pub CallsEngine : EngineOf E C FP F B → E → List HeldSnapshot → Command → Reply
       → EngineOf E C FP F B → E → List HeldSnapshot → Type 0
   CallsEngine before from taken (command.Put key value) reply after to left =

@@ -46,7 +46,7 @@ request_of taken (command.Compact from to) = compact_range from.items to.items
 request_of taken command.Flush = flush
 request_of taken command.Close = close
 
--- the reply tells the answer; a snapshot is told by how many were given out before
+-- the reply is of this answer; a snapshot's number is how many were given out before it
 abbrev pub IsReplyOf : List Snapshot → Reply → Answer → Type 0
 IsReplyOf taken reply.Done answer = answer ≡ done
 IsReplyOf taken (reply.Value value) answer = answer ≡ found (Some value)
@@ -61,7 +61,7 @@ abbrev pub given_by : Answer → List Snapshot
 given_by (snapshot one) = one ∷ []
 given_by answer = []
 
--- a command with the request that it became, its answer, and the reply that told it
+-- a command with the request that it became, the answer to that, and the reply
 pub record Turn : Type 0 where
   pub command : Command
   pub request : Request

@@ -1,4 +1,4 @@
--- What each part of the reader of commands answers: what a text spells, or that it spells nothing.
+-- What each part of the reader of commands returns: what a text encodes, or that it is no encoding.
 use Rattle.std.specs.Prelude.{◌≡◌, ℕ, List, [], ◌∷◌, ◌++◌, Option, None, Some, All, Vec}
 use Rattle.std.specs.Borrow.{Bor}
 use Rattle.std.specs.declared.alloc.Global.{Global}
@@ -9,7 +9,7 @@ use Rattle.leveldb_iter.specs.declared.moves.Move.{Move}
 use Rattle.leveldb_base.specs.Names.{IsNumber}
 use Rattle.rusty_leveldb.specs.Programs.Language.{hex_word, item_word, move_word, words_text, IsViewWord, IsLine, HasBytes, ItemHasBytes, MoveHasBytes, IsNoLine}
 
--- the bytes that a word spells
+-- the bytes that a word encodes
 abbrev pub IsWord : List ℕ → List ℕ → Type 0
 IsWord word bytes = IsBytes bytes × (word ≡ hex_word bytes)
 
@@ -33,7 +33,7 @@ abbrev pub IsItemReading : List ℕ → Option Item → Type 0
 IsItemReading word None = (one : Item) → ItemHasBytes one → word ≡ item_word one → ⊥
 IsItemReading word (Some one) = ItemHasBytes one × (word ≡ item_word one)
 
--- the changes that a text spells
+-- the changes that a text encodes
 abbrev pub IsItems : List ℕ → List Item → Type 0
 IsItems text items = All ItemHasBytes items × (text ≡ words_text item_word items)
 
@@ -62,7 +62,7 @@ abbrev pub rest_text : Option (Bor (List ℕ)) → List ℕ
 rest_text None = []
 rest_text (Some words) = 32 ∷ words.now
 
--- the moves that a text spells
+-- the moves that a text encodes
 abbrev pub IsMoves : List ℕ → List Move → Type 0
 IsMoves text moves = All MoveHasBytes moves × (text ≡ words_text move_word moves)
 

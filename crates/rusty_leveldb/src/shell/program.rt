@@ -4,7 +4,7 @@ ghost use Rattle.leveldb_base.specs.declared.error.Status.{Status};
 ghost use Rattle.std.specs.Io.KnownBytes.{Appends};
 ghost use Rattle.rusty_leveldb.specs.Programs.Language.{reply_lines};
 ghost use Rattle.rusty_leveldb.specs.Engines.Engine.{opening_of};
-ghost use Rattle.rusty_leveldb.specs.Programs.Program.{status_of, AskForRepair, AskForRun, ChecksInput, EndsProgram, HasRepaired, HasRunBy, IsBadInput, IsInputFault, IsFault, IsRepairAnswered, IsInput, IsPlayed, IsAnswered, IsStopped, NamesFolder, NamesNone, ldb_opening};
+ghost use Rattle.rusty_leveldb.specs.Programs.Program.{status_of, AskForRepair, AskForRun, ChecksInput, EndsProgram, HasRepaired, HasRunBy, IsBadInput, IsInputFault, IsRepairAnswered, IsInput, IsPlayed, IsAnswered, IsStopped, NamesFolder, NamesNone, StopsFor, ldb_opening};
 ghost use Rattle.rusty_leveldb.specs.declared.shell.commands.Reply.{Reply};
 ghost use Rattle.rusty_leveldb.specs.declared.shell.program.Fault.TheVariants.{Usage};
 
@@ -125,11 +125,10 @@ fn serve<E: Env, I: Read, O: Write>(
     ensures answered { OnOk result
         (IsAnswered E.Env args.now env.old env.new (I.remaining input.old)
         (O.contents out.old) (O.contents out.new)) }
-    ensures untouched { IfErr result
-        (λ fault. status_of fault ≡ 2 → (env.new ≡ env.old) × (out.new ≡ out.old)) }
     ensures stopped { OnErr result
         (IsStopped E.Env args.now env.old env.new (I.remaining input.old)) }
-    ensures fault { IfErr result (IsFault args.now (I.remaining input.old)) }
+    ensures fault { IfErr result
+        (StopsFor args.now (I.remaining input.old) env.old out.old env.new out.new) }
     ensures usage { NamesNone args.now → IsErrAnd result (λ fault. fault ≡ Usage) }
     ensures bad { AskForRun args.now → IsBadInput (I.remaining input.old) → IsErrAnd result
         (λ fault. IsInputFault (I.remaining input.old) fault × (env.new ≡ env.old)

@@ -18,10 +18,10 @@ returns-then-next g c = λ from leaves over.
     let failed = err_from_is_err_and c.err.result c.err.ensures.code in
     let rises = c.write_found.ensures.numbers.rises in
     let next = c.requires in
-    let writes = rw next at c.in_ok-made.ensures.writes over.moves in
     rw failed.1 (used_up _ g.E.Env c.args.plan.now.store.now c.args.plan.now.greatest g.W.Walk _ _ from c.args.found leaves over (omega (arith, rises, next))
     (sym c.next_file_num-next.ensures ∙ c.if-next.true)
-    writes.changes writes.few failed.2)
+    (rw next at c.in_ok-made.ensures.writes over.moves).changes
+    (rw next at c.in_ok-made.ensures.writes over.moves).few failed.2)
 
 pub returns-in_err-edit : goal.returns-in_err-edit
 returns-in_err-edit g c = λ from leaves over.

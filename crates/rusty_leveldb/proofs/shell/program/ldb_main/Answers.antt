@@ -20,7 +20,7 @@ pub returns-in-Err-clause-ends : goal.returns-in-Err-clause-ends
 returns-in-Err-clause-ends g c =
     ends_at_fault g.E.Env g.I.Read g.O.Write c.args.args.now c.args.env.now c.args.input.now c.args.out.now
     c.serve.new.env c.serve.new.input c.serve.new.out c.in-Err.fault c.tell_fault.result c.tell_fault.ensures
-    c.in-Err.ensures.untouched c.in-Err.ensures.stopped c.in-Err.ensures.fault
+    c.in-Err.ensures.fault.1 c.in-Err.ensures.stopped c.in-Err.ensures.fault.0
 
 pub returns-in-Err-clause-checks : goal.returns-in-Err-clause-checks
 returns-in-Err-clause-checks g c = record {

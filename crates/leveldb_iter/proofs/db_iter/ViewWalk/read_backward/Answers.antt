@@ -4,7 +4,7 @@ use Rattle.std.proofs.lemmas.Bool.{false≢true}
 use Rattle.leveldb_base.specs.Types.{Pair}
 use Rattle.leveldb_iter.specs.DbIterSteps.{IsEntryRead}
 use Rattle.leveldb_base.proofs.OrderLemmas.{bytes_same}
-use Rattle.leveldb_iter.proofs.db_iter.ViewWalk.take.Goals as goal
+use Rattle.leveldb_iter.proofs.db_iter.ViewWalk.read_backward.Goals as goal
 
 pub returns-then-ne-clause-ok : goal.returns-then-ne-clause-ok
 returns-then-ne-clause-ok g c =
