@@ -130,6 +130,50 @@ fn walks_that_fill_no_cache(rt: HostRuntime) -> Result<()> {
     Ok(())
 }
 
+/// How many pairs a walk goes to from the first one at or after a key on, before one that it can't
+/// read.
+fn pairs_from(
+    alloc: Global,
+    opened: &mut Opened,
+    cache: &mut BlockCache<DefaultCmp>,
+    key: &[u8],
+) -> Result<usize> {
+    let compressors = CompressorList::default();
+    let mut core = TableCore::new(alloc, &opened.table)?;
+    let _ = core.seek(&opened.table, &mut opened.env, cache, &compressors, key);
+    let mut count = 0;
+    while core.valid() {
+        count += 1;
+        let _ = core.advance(&opened.table, &mut opened.env, cache, &compressors);
+    }
+    Ok(count)
+}
+
+/// Walks over the twelve blocks of a table with a cache for so many, and asserts that from a key on
+/// so many pairs are left once the file is empty.
+fn assert_left(
+    rt: &(impl Abort + AllocGlobal),
+    capacity: usize,
+    left: &[(&[u8], usize)],
+) -> Result<()> {
+    let mut cache = Cache::new(rt.alloc(), capacity)?;
+    let mut opened = Opened::new(rt, &mut cache, &PAIRS)?;
+    assert!(rt; walk(rt.alloc(), &mut opened, &mut cache, true)? == 12);
+    drop(file_of(&mut opened.env, b"")?);
+    for (key, count) in left {
+        assert!(rt; pairs_from(rt.alloc(), &mut opened, &mut cache, key)? == *count);
+    }
+    Ok(())
+}
+
+/// The first seven blocks of a walk take the place of others, and the next ones only room that is
+/// left: of ten the first stay, and of four those from the fourth to the seventh.
+#[test]
+fn long_walks(rt: HostRuntime) -> Result<()> {
+    assert_left(&rt, 10, &[(b"", 10)])?;
+    assert_left(&rt, 4, &[(b"", 0), (b"ab", 4)])
+}
+
 const ODD: [Given<'static>; 2] = [(b"a", b"1"), (b"b", b"3")];
 
 const EVEN: [Given<'static>; 2] = [(b"a", b"2"), (b"b", b"4")];

@@ -29,6 +29,10 @@ use std::alloc::Global;
 use std::marker::Model;
 use std::mem;
 
+// So many blocks a walk goes to, one after the other, before those that it reads take no other's
+// place in the cache.
+const SHORT_WALK: usize = 8;
+
 /// A position in a table, or none. Each move is given the table, always the same one, the `Env`
 /// that has its file, the cache of blocks and the compressors.
 #[derive(Drop)]
@@ -44,6 +48,9 @@ pub struct TableCore<C: Cmp> {
 
     // whether blocks that it reads go into the cache
     fills: bool,
+
+    // how many blocks it went to since it sought a key
+    passed: usize,
 }
 
 impl<C: Cmp> Model for TableCore<C> {
@@ -113,6 +120,7 @@ impl<C: Cmp + Copy + Drop> TableCore<C> {
             inner: None,
             room,
             fills: true,
+            passed: 0,
         })
     }
 
@@ -326,6 +334,7 @@ impl<C: Cmp + Copy + Drop> TableCore<C> {
             inner,
             room,
             fills: _,
+            passed: _,
         } = self;
         let Some(inner) = inner else {
             key_buffers.keep(index.into_key(), room);
@@ -357,7 +366,7 @@ impl<C: Cmp + Copy + Drop> TableCore<C> {
             (C.accepts table.now.cmp) (C.cmp table.now.cmp) key.now) (ToKey C.Cmp key.now) env.old
             cache.old self.old result env.new cache.new self.new }
     {
-        self.load(table, env, cache, compressors, handle)?;
+        self.load(table, env, cache, compressors, handle, 0)?;
         if self.seek_inside(key)? {
             return Ok(());
         }
@@ -468,10 +477,18 @@ impl<C: Cmp + Copy + Drop> TableCore<C> {
             return Ok(());
         };
         let handle = table.line_handle(self.alloc, value)?;
-        self.load(table, env, cache, compressors, handle)
+        let passed = self.passed.saturating_add(1);
+        self.load(table, env, cache, compressors, handle, passed)
     }
 
-    // Reads the block at a handle, and is at no position of it.
+    // Whether a block that it reads after so many others goes into the cache: a long walk would put
+    // all its blocks in the place of those that others look for, and find none of them again.
+    fn fills_after(&self, passed: usize, cache: &BlockCache<C>) -> bool {
+        self.fills && (passed < SHORT_WALK || cache.count() < cache.cap())
+    }
+
+    // Reads the block at a handle, so many after the one at which it sought a key, and is at no
+    // position of it.
     fn load<E: Env, FP: FilterPolicy>(
         &mut self,
         table: &Table<E, C, FP>,
@@ -479,6 +496,7 @@ impl<C: Cmp + Copy + Drop> TableCore<C> {
         cache: &mut BlockCache<C>,
         compressors: &CompressorList,
         handle: BlockHandle,
+        passed: usize,
     ) -> Result<()>
         ensures reads { let codings = ⟦<CompressorList as Compressors>⟧.codings compressors.now in
             ReadsFile E.Env (IsLackError E.Env codings (λ bytes.
@@ -495,7 +513,9 @@ impl<C: Cmp + Copy + Drop> TableCore<C> {
         ensures gathers { GainsBlocksOf C.Cmp E.Env (⟦<CompressorList as Compressors>⟧.codings
             compressors.now) table.now env.old cache.old cache.new }
     {
-        let block = table.read_block(self.alloc, env, cache, compressors, handle, self.fills)?;
+        let fills = self.fills_after(passed, cache);
+        let block = table.read_block(self.alloc, env, cache, compressors, handle, fills)?;
+        self.passed = passed;
         let room = mem::replace(&mut self.room, Vec::new(self.alloc));
         self.inner = Some(OwnedBlockIter::with_room(block, room));
         Ok(())
