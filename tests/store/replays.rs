@@ -205,7 +205,7 @@ fn refused_at(alloc: Global, log: &[u8], nth: u64, done: bool) -> Result<Option<
     let by_device = failed_with(opened, StatusCode::IOError)?;
     let stays = numbers_in(alloc, &mut env)? == numbers;
     env.fail(0, false);
-    let again = match reopen(alloc, &mut env, Options::default()) {
+    let again = match answered(reopen(alloc, &mut env, Options::default()))? {
         Ok(()) => true,
         Err(status) => status.code == StatusCode::LockError,
     };
