@@ -14,6 +14,7 @@ use leveldb_mem::write_batch::WriteBatch;
 use rusty_leveldb::db_impl::Engine;
 use std::alloc::Global;
 use std::process::Abort;
+use support::answered;
 
 /// The first log.
 const LOG: &str = "db/000003.log";
@@ -105,7 +106,8 @@ fn write_one(
     step: &Step,
 ) -> Result<()> {
     let batch = batch_of(alloc, step.0)?;
-    assert!(rt; code_of(engine.write(env, batch, false)) == step.1);
+    let answer = answered(engine.write(env, batch, false))?;
+    assert!(rt; code_of(answer) == step.1);
     assert_found(rt, env, engine, step.2)
 }
 

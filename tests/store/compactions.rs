@@ -12,7 +12,7 @@ use rusty_leveldb::shell::{Move, Step};
 use slow_store::{has_levels, read_store};
 use std::alloc::Global;
 use std::process::Abort;
-use support::{damage_file, failed_with};
+use support::{answered, damage_file, failed_with};
 
 /// What is done to an open store, or asked of it.
 #[derive(Clone, Copy)]
@@ -172,8 +172,9 @@ impl Trial {
     }
 
     /// Whether the files are a store by its definition.
-    fn is_whole(&mut self) -> bool {
-        read_store(self.alloc, &mut self.env, &DefaultCmp, STORE).is_ok()
+    fn is_whole(&mut self) -> Result<bool> {
+        let read = read_store(self.alloc, &mut self.env, &DefaultCmp, STORE);
+        Ok(answered(read)?.is_ok())
     }
 }
 
@@ -181,7 +182,7 @@ impl Trial {
 fn play(rt: &impl Abort, alloc: Global, settings: Settings, acts: &[Act]) -> Result<()> {
     let mut trial = Trial::new(alloc, settings)?;
     trial.play(rt, acts)?;
-    assert!(rt; trial.is_whole());
+    assert!(rt; trial.is_whole()?);
     trial.engine.abandon(&mut trial.env)
 }
 
@@ -309,10 +310,10 @@ fn fail_in_second(rt: &impl Abort, alloc: Global, nth: u64, done: bool) -> Resul
     trial.play(rt, SECOND_COMPACTION)?;
     trial.play(rt, BOTH_VIEWS)?;
     trial.env.fail(nth, done);
-    let has_failed = trial.compact("", "").is_err();
+    let has_failed = answered(trial.compact("", ""))?.is_err();
     trial.env.fail(0, false);
     trial.play(rt, BOTH_VIEWS)?;
-    assert!(rt; trial.is_whole(), "call {nth}");
+    assert!(rt; trial.is_whole()?, "call {nth}");
     let is_broken = trial.engine.check_writable().is_err();
     if is_broken {
         trial.play(
@@ -326,9 +327,9 @@ fn fail_in_second(rt: &impl Abort, alloc: Global, nth: u64, done: bool) -> Resul
         trial.play(rt, &[Act::Compact("", ""), Act::Compact("", "")])?;
     }
     trial.play(rt, BOTH_VIEWS)?;
-    assert!(rt; trial.is_whole(), "call {nth}");
+    assert!(rt; trial.is_whole()?, "call {nth}");
     trial.play(rt, &[Act::Reopen, Act::Finds("k", "-")])?;
-    assert!(rt; trial.is_whole(), "call {nth}");
+    assert!(rt; trial.is_whole()?, "call {nth}");
     trial.engine.abandon(&mut trial.env)?;
     Ok(has_failed)
 }
@@ -377,7 +378,7 @@ fn a_manifest_that_is_not_synced(rt: HostRuntime) -> Result<()> {
             Act::Finds("k", "-"),
         ],
     )?;
-    assert!(rt; trial.is_whole());
+    assert!(rt; trial.is_whole()?);
     trial.engine.abandon(&mut trial.env)
 }
 

@@ -8,7 +8,7 @@ use leveldb_env::options::Options;
 use slow_store::read_store;
 use std::alloc::Global;
 use std::process::Abort;
-use support::{Lines, Raised, damage_file};
+use support::{Lines, Raised, answered, damage_file};
 
 /// A disk with a store of one key, of this many tables and one more, and its newest value in the
 /// log.
@@ -36,8 +36,9 @@ fn byte_in(alloc: Global, env: &mut RecordEnv) -> Result<u8> {
 }
 
 /// Whether the files are a store by its definition.
-fn is_whole(alloc: Global, env: &mut RecordEnv) -> bool {
-    read_store(alloc, env, &DefaultCmp, STORE).is_ok()
+fn is_whole(alloc: Global, env: &mut RecordEnv) -> Result<bool> {
+    let read = read_store(alloc, env, &DefaultCmp, STORE);
+    Ok(answered(read)?.is_ok())
 }
 
 /// With the table of the log level 0 has four.
@@ -53,7 +54,7 @@ fn four_tables_are_merged(rt: HostRuntime) -> Result<()> {
         assert!(rt; byte_in(alloc, &mut env)? == b'2' + count);
         let tables = count_tables(alloc, &mut env)?;
         assert!(rt; tables == left, "{count}: {tables}");
-        assert!(rt; is_whole(alloc, &mut env));
+        assert!(rt; is_whole(alloc, &mut env)?);
     }
     Ok(())
 }
@@ -72,7 +73,7 @@ fn many_openings(rt: HostRuntime) -> Result<()> {
         assert!(rt; tables <= 5, "step {step}: {tables}");
         assert!(rt; byte_in(alloc, &mut env)? == value, "step {step}");
     }
-    assert!(rt; is_whole(alloc, &mut env));
+    assert!(rt; is_whole(alloc, &mut env)?);
     Ok(())
 }
 
@@ -83,7 +84,7 @@ fn opened_at(rt: &impl Abort, alloc: Global, nth: u64, done: bool) -> Result<Opt
     let mut env = left_with(alloc, 4)?;
     let before = env.moment();
     env.fail(nth, done);
-    let first = opened(alloc, &mut env, tabling());
+    let first = answered(opened(alloc, &mut env, tabling()))?;
     let calls = (env.moment() - before) / 2;
     env.fail(0, false);
     let is_ok = first.is_ok();
@@ -103,7 +104,7 @@ fn opened_at(rt: &impl Abort, alloc: Global, nth: u64, done: bool) -> Result<Opt
             env.unlock("db/LOCK")?;
         }
     }
-    assert!(rt; is_whole(alloc, &mut env), "call {nth} {done}");
+    assert!(rt; is_whole(alloc, &mut env)?, "call {nth} {done}");
     assert!(rt; byte_in(alloc, &mut env)? == b'6', "call {nth} {done}");
     // One of them may be the other key's.
     let tables = count_tables(alloc, &mut env)?;
@@ -166,7 +167,7 @@ fn crash_at(
         after: whole,
     };
     let mut left = env.disk_at(alloc, moment, &pick)?;
-    assert!(rt; is_whole(alloc, &mut left), "moment {moment} {whole}");
+    assert!(rt; is_whole(alloc, &mut left)?, "moment {moment} {whole}");
     let byte = byte_in(alloc, &mut left)?;
     assert!(rt; byte == b'6' || byte == b'5', "moment {moment} {whole}");
     // Without the log's value level 0 has three tables.

@@ -9,7 +9,7 @@ use rusty_leveldb::Snapshot;
 use slow_store::read_store;
 use std::alloc::Global;
 use std::process::Abort;
-use support::{damage_file, failed_with};
+use support::{answered, damage_file, failed_with};
 
 /// A store that is open, on its device, each write of which makes a table of the memtable.
 #[derive(Drop)]
@@ -44,8 +44,9 @@ impl Trial {
     }
 
     /// Whether the files are a store by its definition.
-    fn is_whole(&mut self) -> bool {
-        read_store(self.alloc, &mut self.env, &DefaultCmp, STORE).is_ok()
+    fn is_whole(&mut self) -> Result<bool> {
+        let read = read_store(self.alloc, &mut self.env, &DefaultCmp, STORE);
+        Ok(answered(read)?.is_ok())
     }
 }
 
@@ -60,7 +61,7 @@ fn by_score(rt: HostRuntime) -> Result<()> {
     assert!(rt; trial.count_tables()? == 5);
     trial.put(b'7')?;
     assert!(rt; trial.count_tables()? == 2);
-    assert!(rt; trial.byte(None)? == b'7' && trial.is_whole());
+    assert!(rt; trial.byte(None)? == b'7' && trial.is_whole()?);
     trial.engine.abandon(&mut trial.env)
 }
 
@@ -99,7 +100,7 @@ fn tables_after_reads(rt: &impl Abort, alloc: Global, count: usize) -> Result<us
     }
     trial.put(b'6')?;
     let found = [trial.byte(None)?, trial.byte(Some(first))?];
-    assert!(rt; found == *b"61" && trial.is_whole());
+    assert!(rt; found == *b"61" && trial.is_whole()?);
     let tables = trial.count_tables()?;
     trial.engine.abandon(&mut trial.env)?;
     Ok(tables)
@@ -136,6 +137,6 @@ fn many_puts(rt: HostRuntime) -> Result<()> {
         let count = trial.count_tables()?;
         assert!(rt; count <= 12, "step {step}: {count}");
     }
-    assert!(rt; trial.is_whole());
+    assert!(rt; trial.is_whole()?);
     trial.engine.abandon(&mut trial.env)
 }

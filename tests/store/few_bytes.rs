@@ -1,9 +1,9 @@
 //! Runs over an environment that gives at most one byte a read, or two, up to nine: what they reply
 //! and the files that they leave are those of reads that give all bytes that are asked for.
 use super::acts::{Setting, options_of};
-use super::sinks::commands_of;
+use super::sinks::{commands_of, end_of};
 use super::stores::STORE;
-use leveldb_base::error::{Result, StatusCode};
+use leveldb_base::error::Result;
 use leveldb_env::env::Env;
 use leveldb_env::env::whole_files::read_file;
 use leveldb_env::mem_env::{Pick, RecordEnv};
@@ -137,7 +137,7 @@ fn show(
     let mut replies = Vec::new(alloc);
     let ended = run(device, STORE, options_of(setting), &commands, &mut replies);
     device.env.fail(0, false);
-    let code = ended.err().map_or(StatusCode::OK, |status| status.code);
+    let code = end_of(ended, &replies)?;
     put_replies(shown, &replies)?;
     shown.extend_from_slice(format!(in alloc; "{code}: ")?.as_bytes())?;
     show_files(device, shown)?;

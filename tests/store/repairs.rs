@@ -11,8 +11,8 @@ use rusty_leveldb::repair;
 use std::alloc::Global;
 use std::process::Abort;
 use support::{
-    Lines, Raised, ShortReads, change_byte, code_of, damage_file, failed_with, file_bytes,
-    files_on, is_free, lose_manifest, put_file,
+    Lines, Raised, ShortReads, answered, change_byte, code_of, damage_file, failed_with,
+    file_bytes, files_on, is_free, lose_manifest, put_file,
 };
 
 /// The pairs of the small store, the first of which is in a table, and the other in a log.
@@ -493,7 +493,7 @@ fn fail_in_repair(
 ) -> Result<bool> {
     let mut env = kept_small(alloc, is_lost)?;
     env.fail(nth, done);
-    let repaired = mend(alloc, &mut env);
+    let repaired = answered(mend(alloc, &mut env))?;
     let calls = env.moment() / 2;
     env.fail(0, false);
     if calls < nth {

@@ -10,7 +10,9 @@ use slow_history::{Entry, view_of};
 use slow_store::{Found, read_found, read_store};
 use std::alloc::Global;
 use std::process::Abort;
-use support::{Change, File, Random, change_byte, disk_with, file_bytes, files_on, put_file};
+use support::{
+    Change, File, Random, answered, change_byte, disk_with, file_bytes, files_on, put_file,
+};
 
 // ---- what is to come of a repair
 
@@ -114,7 +116,7 @@ fn repair_beside_slow(
 ) -> Result<bool> {
     let before = files_on(alloc, env)?;
     let found = read_found(alloc, env, &DefaultCmp, STORE)?;
-    let repaired = mend(alloc, env);
+    let repaired = answered(mend(alloc, env))?;
     if let Some(code) = code_for(&found) {
         let is_right = matches!(&repaired, Err(Status { code: other, .. }) if *other == code);
         assert!(rt; is_right, "{what}: {repaired:?}");

@@ -12,7 +12,7 @@ use leveldb_mem::write_batch::WriteBatch;
 use slow_store::read_store;
 use std::alloc::Global;
 use std::process::Abort;
-use support::{Random, ShortReads, failed_with, put_file};
+use support::{Random, ShortReads, answered, failed_with, put_file};
 
 /// The log of a new store.
 const LOG: &str = "000003.log";
@@ -76,7 +76,8 @@ pub fn damage(bytes: &mut Vec<u8>, random: &mut Random) {
 /// The number of each key's newest entry that the slow store reads, in order, or none where the
 /// files are no store. A compaction may drop the others.
 fn numbers_in<E: Env>(alloc: Global, env: &mut E) -> Result<Option<Vec<u64>>> {
-    let Ok(Some(contents)) = read_store(alloc, env, &DefaultCmp, STORE) else {
+    let read = read_store(alloc, env, &DefaultCmp, STORE);
+    let Ok(Some(contents)) = answered(read)? else {
         return Ok(None);
     };
     let mut numbers = Vec::new(alloc);
@@ -107,7 +108,7 @@ fn open_over<E: Env>(alloc: Global, env: &mut E, log: &[u8], setting: Setting) -
     reopen(alloc, env, Options::default())?;
     put_file(alloc, env, LOG, log)?;
     let before = numbers_in(alloc, env)?;
-    let code = match reopen(alloc, env, options_of(setting)) {
+    let code = match answered(reopen(alloc, env, options_of(setting)))? {
         Ok(()) => None,
         Err(status) => Some(status.code),
     };
@@ -204,7 +205,7 @@ fn refused_at(alloc: Global, log: &[u8], nth: u64, done: bool) -> Result<Option<
     let by_device = failed_with(opened, StatusCode::IOError)?;
     let stays = numbers_in(alloc, &mut env)? == numbers;
     env.fail(0, false);
-    let again = match reopen(alloc, &mut env, Options::default()) {
+    let again = match answered(reopen(alloc, &mut env, Options::default()))? {
         Ok(()) => true,
         Err(status) => status.code == StatusCode::LockError,
     };

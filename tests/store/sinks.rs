@@ -1,7 +1,7 @@
 //! An information log whose sink refuses every line changes nothing that a store returns, and no file.
 use super::acts::{Setting, options_of};
 use super::stores::{STORE, files_of};
-use leveldb_base::error::{Result, StatusCode, err};
+use leveldb_base::error::{Result, Status, StatusCode, err};
 use leveldb_env::env::Env;
 use leveldb_env::infolog::{InfoSink, Logger};
 use leveldb_env::mem_env::{Pick, RecordEnv};
@@ -9,6 +9,7 @@ use rusty_leveldb::shell::{Command, Reply, Script, parse, put_replies, run};
 use std::alloc::Global;
 use std::cell::Cell;
 use std::rc::Rc;
+use support::{answered, code_of};
 
 /// A sink that refuses each line, and counts them.
 #[derive(Drop)]
@@ -71,6 +72,20 @@ fn play<E: Env>(
     run(env, STORE, options, commands, replies)
 }
 
+/// The code with which a run ended. Out of memory is passed on, also that of a reply.
+pub fn end_of(ended: Result<()>, replies: &[Reply]) -> Result<StatusCode> {
+    let is_refused = |reply: &Reply| {
+        matches!(reply, Reply::Refused(status) if status.code == StatusCode::OutOfMemory)
+    };
+    if replies.iter().any(is_refused) {
+        return Err(Status {
+            code: StatusCode::OutOfMemory,
+            err: None,
+        });
+    }
+    Ok(code_of(&answered(ended)?))
+}
+
 /// Appends what a run prints, how it ends, and which files it leaves. No call fails afterwards.
 fn show(
     env: &mut RecordEnv,
@@ -84,8 +99,8 @@ fn show(
     let mut replies = Vec::new(alloc);
     let ended = play(alloc, env, setting, lines, &commands, &mut replies);
     env.fail(0, false);
+    let code = end_of(ended, &replies)?;
     put_replies(shown, &replies)?;
-    let code = ended.err().map_or(StatusCode::OK, |status| status.code);
     let end = format!(in alloc; "{code}: {}\n", files_of(alloc, env)?)?;
     shown.extend_from_slice(end.as_bytes())?;
     Ok(())

@@ -13,6 +13,15 @@ pub fn failed_with<T: Drop>(answer: Result<T>, code: StatusCode) -> Result<bool>
     Ok(status.code == code)
 }
 
+/// What a call returned, but out of memory is passed on.
+pub fn answered<T>(answer: Result<T>) -> Result<Result<T>> {
+    match answer {
+        Ok(value) => Ok(Ok(value)),
+        Err(status) if status.code == StatusCode::OutOfMemory => Err(status),
+        Err(status) => Ok(Err(status)),
+    }
+}
+
 /// The code of what a call returned.
 pub fn code_of(answer: &Result<()>) -> StatusCode {
     match answer {

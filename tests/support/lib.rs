@@ -11,7 +11,7 @@ mod random;
 mod ruled;
 mod sinks;
 
-pub use answers::{code_of, failed_with};
+pub use answers::{answered, code_of, failed_with};
 pub use compressors::{Raised, Refusing};
 pub use damage::change_byte;
 pub use folder::{
