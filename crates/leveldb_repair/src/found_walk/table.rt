@@ -4,6 +4,7 @@ ghost use Rattle.leveldb_base.specs.Types.{pair_of};
 ghost use Rattle.leveldb_table.specs.TableReaderWalk.{inner_position};
 
 use super::files::{ReadFiles, ReadsFound};
+use super::moves::move_in;
 use leveldb_base::cmp::{Cmp, InternalKeyCmp, UserCmp};
 use leveldb_base::error::Result;
 use leveldb_env::compressor::{CompressorList, Compressors};
@@ -11,7 +12,7 @@ use leveldb_env::env::Env;
 use leveldb_env::filter::NoFilterPolicy;
 use leveldb_iter::walk::Walk;
 use leveldb_table::block_cache::BlockCache;
-use leveldb_table::table_reader::{Table, TableCore, TableReader};
+use leveldb_table::table_reader::{Table, TableCore};
 use std::alloc::Global;
 
 /// A walk over one table of internal keys, with the table's file, which is open. It has two blocks
@@ -105,28 +106,8 @@ impl<E: Env, C: UserCmp + Copy + Drop> FoundTable<E, C> {
             (⟦<CompressorList as Compressors>⟧.codings compressors.now) to.entry env.old self.old
             result env.new self.new }
     {
-        let mut reader = TableReader {
-            table: &self.table,
-            env: &mut *env,
-            cache: &mut self.blocks,
-            compressors,
-        };
-        match to {
-            FoundMove::Next => self.core.advance(&mut reader),
-            FoundMove::Before => self.core.prev(&mut reader),
-            FoundMove::Seek(key) => {
-                self.core.seek(&mut reader, key)?;
-                Ok(self.core.valid())
-            }
-            FoundMove::First => {
-                self.core.seek_to_first(&mut reader)?;
-                Ok(self.core.valid())
-            }
-            FoundMove::Last => {
-                self.core.seek_to_last(&mut reader)?;
-                Ok(self.core.valid())
-            }
-        }
+        let (core, table, blocks) = (&mut self.core, &self.table, &mut self.blocks);
+        move_in(core, table, env, blocks, compressors, to)
     }
 }
 
