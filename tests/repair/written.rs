@@ -11,7 +11,7 @@ use leveldb_env::mem_env::RecordEnv;
 use leveldb_env::options::Options;
 use leveldb_repair::write_found::{set_above, write_found};
 use leveldb_table::cache::Cache;
-use leveldb_table::table_reader::Table;
+use leveldb_table::table_reader::{Table, TableReader};
 use leveldb_version::version_set::VersionSet;
 use std::alloc::Global;
 use support::failed_with;
@@ -51,8 +51,14 @@ pub(super) fn read_into(
     let open = env.open_random_access_file(&table_file_name(alloc, "db", file.num)?)?;
     let mut cache = Cache::new(alloc, 4)?;
     let table = Table::new(alloc, &options, env, &mut cache, open, file.size)?;
-    let mut walk = table.iter(alloc, env, &mut cache)?;
-    while walk.advance(&options.compressor_list)? {
+    let reader = TableReader {
+        table: &table,
+        env,
+        cache: &mut cache,
+        compressors: &options.compressor_list,
+    };
+    let mut walk = reader.iter(alloc)?;
+    while walk.advance()? {
         if let Some((key, value)) = walk.current() {
             pairs.push((
                 Bytes::copy_from_slice(alloc, key)?,

@@ -12,7 +12,7 @@ use leveldb_env::mem_env::{Pick, RecordEnv};
 use leveldb_env::options::Options;
 use leveldb_mem::memtable::{MemTable, MemtableIterator};
 use leveldb_table::cache::Cache;
-use leveldb_table::table_reader::{Table, TableIterator};
+use leveldb_table::table_reader::{Table, TableIterator, TableReader};
 use rusty_leveldb::db_impl::build_memtable;
 use std::alloc::Global;
 use std::process::Abort;
@@ -77,11 +77,10 @@ fn build(
 fn are_alike(
     found: &mut TablePairs<'_>,
     wanted: &mut MemtableIterator<'_, DefaultCmp>,
-    options: &Options<DefaultCmp, BloomPolicy>,
     count: usize,
 ) -> Result<bool> {
     for _ in 0..=count {
-        let there = found.advance(&options.compressor_list)?;
+        let there = found.advance()?;
         if there != wanted.advance()? || found.current() != wanted.current() {
             return Ok(false);
         }
@@ -100,8 +99,13 @@ fn is_table_of(
     let file = env.open_random_access_file(PATH)?;
     let mut cache = Cache::new(alloc, 4)?;
     let table = Table::new(alloc, options, env, &mut cache, file, size)?;
-    let mut found = table.iter(alloc, env, &mut cache)?;
-    are_alike(&mut found, &mut memtable.iter(), options, memtable.len())
+    let reader = TableReader {
+        table: &table,
+        env,
+        cache: &mut cache,
+        compressors: &options.compressor_list,
+    };
+    are_alike(&mut reader.iter(alloc)?, &mut memtable.iter(), memtable.len())
 }
 
 /// Builds a table by so many calls, asserts that it has the memtable's pairs from its first key to

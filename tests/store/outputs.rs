@@ -15,7 +15,7 @@ use leveldb_mem::memtable::MemTable;
 use leveldb_store::outputs::Outputs;
 use leveldb_table::cache::Cache;
 use leveldb_table::table_builder::builder_core::BuilderCore;
-use leveldb_table::table_reader::Table;
+use leveldb_table::table_reader::{Table, TableReader};
 use leveldb_version::version_set::VersionSet;
 use rusty_leveldb::db_impl::build_memtable;
 use std::alloc::Global;
@@ -157,9 +157,15 @@ pub fn pairs_of<E: Env>(
     let open = env.open_random_access_file(&path_of(alloc, file.num)?)?;
     let mut cache = Cache::new(alloc, 4)?;
     let table = Table::new(alloc, options, env, &mut cache, open, file.size)?;
-    let mut walk = table.iter(alloc, env, &mut cache)?;
+    let reader = TableReader {
+        table: &table,
+        env,
+        cache: &mut cache,
+        compressors: &options.compressor_list,
+    };
+    let mut walk = reader.iter(alloc)?;
     let mut pairs = Vec::new(alloc);
-    while walk.advance(&options.compressor_list)? {
+    while walk.advance()? {
         let Some((key, value)) = walk.current() else {
             break;
         };

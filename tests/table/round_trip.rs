@@ -15,7 +15,7 @@ use leveldb_table::block_cache::BlockCache;
 use leveldb_table::cache::Cache;
 use leveldb_table::laws::{internal_keys_are_separated, internal_keys_stand_together};
 use leveldb_table::table_builder::builder_core::BuilderCore;
-use leveldb_table::table_reader::{Table, TableIterator};
+use leveldb_table::table_reader::{Table, TableIterator, TableReader};
 use std::alloc::Global;
 use std::process::Abort;
 
@@ -108,17 +108,22 @@ fn look_up<E: Env, C: Cmp + Copy + Drop, FP: FilterPolicy + Copy + Drop>(
     table: &Table<E, C, FP>,
     key: &[u8],
 ) -> Result<Option<(Bytes, Bytes)>> {
-    table.get(alloc, env, cache, &options.compressor_list, key)
+    let mut reader = TableReader {
+        table,
+        env,
+        cache,
+        compressors: &options.compressor_list,
+    };
+    reader.get(alloc, key)
 }
 
 /// The pairs over which a walk goes from no position forward, up to no position again.
 fn pairs_forward<E: Env, C: Cmp + Copy + Drop, FP: FilterPolicy>(
     alloc: Global,
     it: &mut TableIterator<'_, E, C, FP>,
-    compressors: &CompressorList,
 ) -> Result<Vec<(Bytes, Bytes)>> {
     let mut passed = Vec::new(alloc);
-    it.advance(compressors)?;
+    it.advance()?;
     for step in 0..u64::MAX {
         let Some((key, value)) = it.current() else {
             return Ok(passed);
@@ -126,7 +131,7 @@ fn pairs_forward<E: Env, C: Cmp + Copy + Drop, FP: FilterPolicy>(
         let key = Bytes::copy_from_slice(alloc, key)?;
         let value = Bytes::copy_from_slice(alloc, value)?;
         passed.push((key, value))?;
-        it.advance(compressors)?;
+        it.advance()?;
     }
     err(alloc, StatusCode::NotSupported, TOO_MANY)
 }
@@ -135,10 +140,9 @@ fn pairs_forward<E: Env, C: Cmp + Copy + Drop, FP: FilterPolicy>(
 fn pairs_back<E: Env, C: Cmp + Copy + Drop, FP: FilterPolicy>(
     alloc: Global,
     it: &mut TableIterator<'_, E, C, FP>,
-    compressors: &CompressorList,
 ) -> Result<Vec<(Bytes, Bytes)>> {
     let mut passed = Vec::new(alloc);
-    it.seek_to_last(compressors)?;
+    it.seek_to_last()?;
     for step in 0..u64::MAX {
         let Some((key, value)) = it.current() else {
             return Ok(passed);
@@ -146,7 +150,7 @@ fn pairs_back<E: Env, C: Cmp + Copy + Drop, FP: FilterPolicy>(
         let key = Bytes::copy_from_slice(alloc, key)?;
         let value = Bytes::copy_from_slice(alloc, value)?;
         passed.push((key, value))?;
-        it.prev(compressors)?;
+        it.prev()?;
     }
     err(alloc, StatusCode::NotSupported, TOO_MANY)
 }
@@ -159,10 +163,15 @@ fn pairs_both_ways<E: Env, C: Cmp + Copy + Drop, FP: FilterPolicy + Copy + Drop>
     cache: &mut BlockCache<C>,
     table: &Table<E, C, FP>,
 ) -> Result<BothWays> {
-    let compressors = &options.compressor_list;
-    let mut it = table.iter(alloc, env, cache)?;
-    let forward = pairs_forward(alloc, &mut it, compressors)?;
-    let back = pairs_back(alloc, &mut it, compressors)?;
+    let reader = TableReader {
+        table,
+        env,
+        cache,
+        compressors: &options.compressor_list,
+    };
+    let mut it = reader.iter(alloc)?;
+    let forward = pairs_forward(alloc, &mut it)?;
+    let back = pairs_back(alloc, &mut it)?;
     Ok(BothWays { forward, back })
 }
 

@@ -8,7 +8,7 @@ fn check_both_ways<E: Env, FP: FilterPolicy>(
     env: &mut E,
     cache: &mut BlockCache<DefaultCmp>,
 ) -> Result<()> {
-    let mut reader = Reader {
+    let mut reader = TableReader {
         table,
         env,
         cache,
@@ -74,8 +74,13 @@ fn fails_uncached<E: Env, FP: FilterPolicy>(
     env: &mut E,
 ) -> Result<bool> {
     let mut cache = Cache::new(alloc, 12)?;
-    let answer = table.get(alloc, env, &mut cache, &CompressorList::default(), b"a");
-    failed_with(answer, StatusCode::Corruption)
+    let mut reader = TableReader {
+        table,
+        env,
+        cache: &mut cache,
+        compressors: &CompressorList::default(),
+    };
+    failed_with(reader.get(alloc, b"a"), StatusCode::Corruption)
 }
 
 /// Asserts that the blocks that a cache holds are read once their file is empty, and that another
@@ -107,10 +112,11 @@ fn walk(
     cache: &mut BlockCache<DefaultCmp>,
     fills: bool,
 ) -> Result<usize> {
-    let compressors = CompressorList::default();
     let mut core = TableCore::new(alloc, &opened.table)?.filling(fills);
+    let compressors = CompressorList::default();
+    let mut reader = opened.reader(cache, &compressors);
     let mut count = 0;
-    while core.advance(&opened.table, &mut opened.env, cache, &compressors)? {
+    while core.advance(&mut reader)? {
         count += 1;
     }
     Ok(count)
