@@ -1,5 +1,5 @@
 -- Readers of open tables from one call to the next.
-use Rattle.std.proofs.Common.{◌∙◌, List, ℕ, Option, Result, refl, subst}
+use Rattle.std.proofs.Common.{◌∙◌, Result, subst}
 use Rattle.leveldb_base.specs.declared.cmp.Cmp.{Ghosts as CmpGhosts}
 use Rattle.leveldb_base.specs.declared.error.Status.{Status}
 use Rattle.leveldb_env.specs.Compressor.{Codings}

@@ -18,7 +18,7 @@ use Rattle.leveldb_table.specs.BlockCache.{HoldsOnlyOf}
 use Rattle.leveldb_table.specs.Table.{Part, index_pair}
 use Rattle.leveldb_table.specs.TableReader.{OpenTable, lines_of, may_contain, HasParts, found_in, GainsBlocksOf}
 use Rattle.leveldb_table.specs.TableBlock.{IsNamedBy, NamesNone, LacksLine, ForBytesOf, IsLackError, ReadsFile}
-use Rattle.leveldb_table.specs.TableReaderWalk.{TablePlace, MovesInTable, TablePosition, Outcome, IsNamed, inner_position, table_position}
+use Rattle.leveldb_table.specs.TableReaderWalk.{TablePlace, TablePosition, Outcome, IsNamed, inner_position, table_position}
 use Rattle.leveldb_table.specs.declared.block_cache.CachedBlock.{CachedBlock}
 
 -- it comes to no line, and to no pair

@@ -1,17 +1,12 @@
 //! Tables: files that are opened once, and then looked up and walked block by block.
 // LevelDB: table/table.cc
-ghost use Rattle.std.specs.Prelude.{◌≡◌, ◌⊎◌, ◌+◌, ◌^◌, ◌<◌, List, ℕ, Bool, true, None, Some, length, map, IfOk, IfSome, IfErr, Err, OnErr, IsErrAnd, MatchOption};
-ghost use Rattle.leveldb_base.specs.Cmp.{bytewise};
+ghost use Rattle.std.specs.Prelude.{◌≡◌, ◌⊎◌, ◌+◌, ◌<◌, List, true, None, Some, length, map, IfOk, IfErr, MatchOption};
 ghost use Rattle.leveldb_base.specs.BlockHandle.{Handle, handle_bytes, HandleFits};
-ghost use Rattle.leveldb_base.specs.Types.{Pair};
 ghost use Rattle.leveldb_base.specs.Error.{IsOutOfMemory};
 ghost use Rattle.leveldb_base.specs.declared.error.StatusCode.TheVariants.{Corruption, NotSupported};
-ghost use Rattle.leveldb_env.specs.Compressor.{Codings, Decodes};
-ghost use Rattle.leveldb_table.specs.Block.{HasEntries, IsBlock, pairs_of};
-ghost use Rattle.leveldb_table.specs.Table.{Part, HasBlockAt, index_pair, filter_key, offset_for};
-ghost use Rattle.leveldb_table.specs.Cache.{looked_for};
-ghost use Rattle.leveldb_table.specs.BlockCache.{HoldsOnlyOf, IsBlockOfFile, GainsBlocks, IsCachedAt, cache_key};
-ghost use Rattle.leveldb_table.specs.TableBlock.{LacksBlock, NamesNone, ReadsFile, FileHas, ForBytesOf, IsLackError};
+ghost use Rattle.leveldb_table.specs.Block.{HasEntries};
+ghost use Rattle.leveldb_table.specs.Table.{Part, index_pair, filter_key};
+ghost use Rattle.leveldb_table.specs.TableBlock.{NamesNone};
 
 use crate::block::Block;
 use crate::block_cache::BlockCache;

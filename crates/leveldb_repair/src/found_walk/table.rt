@@ -11,7 +11,7 @@ use leveldb_env::env::Env;
 use leveldb_env::filter::NoFilterPolicy;
 use leveldb_iter::walk::Walk;
 use leveldb_table::block_cache::BlockCache;
-use leveldb_table::table_reader::{Table, TableCore};
+use leveldb_table::table_reader::{Table, TableCore, TableReader};
 use std::alloc::Global;
 
 /// A walk over one table of internal keys, with the table's file, which is open. It has two blocks
@@ -105,21 +105,25 @@ impl<E: Env, C: UserCmp + Copy + Drop> FoundTable<E, C> {
             (⟦<CompressorList as Compressors>⟧.codings compressors.now) to.entry env.old self.old
             result env.new self.new }
     {
-        let table = &self.table;
-        let blocks = &mut self.blocks;
+        let mut reader = TableReader {
+            table: &self.table,
+            env,
+            cache: &mut self.blocks,
+            compressors,
+        };
         match to {
-            FoundMove::Next => self.core.advance(table, env, blocks, compressors),
-            FoundMove::Before => self.core.prev(table, env, blocks, compressors),
+            FoundMove::Next => self.core.advance(&mut reader),
+            FoundMove::Before => self.core.prev(&mut reader),
             FoundMove::Seek(key) => {
-                self.core.seek(table, env, blocks, compressors, key)?;
+                self.core.seek(&mut reader, key)?;
                 Ok(self.core.valid())
             }
             FoundMove::First => {
-                self.core.seek_to_first(table, env, blocks, compressors)?;
+                self.core.seek_to_first(&mut reader)?;
                 Ok(self.core.valid())
             }
             FoundMove::Last => {
-                self.core.seek_to_last(table, env, blocks, compressors)?;
+                self.core.seek_to_last(&mut reader)?;
                 Ok(self.core.valid())
             }
         }

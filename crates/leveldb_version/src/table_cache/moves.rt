@@ -1,5 +1,6 @@
 //! Moves of a walk over a table that is found in a cache by its number.
 // LevelDB: db/table_cache.cc, TableCache::NewIterator
+ghost use Rattle.leveldb_table.specs.TableReads.{IsSameReader};
 ghost use Rattle.leveldb_version.specs.Tables.TableCache.{options_by};
 ghost use Rattle.leveldb_version.specs.Tables.TableMoves.{LeavesPairs, MovesInNumbered, StepsInOpen};
 
@@ -10,8 +11,7 @@ use leveldb_base::types::FileNum;
 use leveldb_env::compressor::{CompressorList, Compressors};
 use leveldb_env::env::Env;
 use leveldb_env::filter::{FilterPolicy, InternalFilterPolicy};
-use leveldb_table::block_cache::BlockCache;
-use leveldb_table::table_reader::{Table, TableCore, TableStep};
+use leveldb_table::table_reader::{TableCore, TableReader, TableStep};
 use std::alloc::Global;
 
 /// Compressors by which a store's tables are opened and read. A type that holds a borrow of such
@@ -131,28 +131,24 @@ impl<E: Env, C: UserCmp + Copy + Drop, FP: FilterPolicy + Copy + Drop> TableCach
             return Err(status);
         }
         if let Some(table) = self.tables.peek(&table_key(number)) {
-            return step_in(
-                self.alloc,
+            let mut reader = TableReader {
                 table,
                 env,
-                &mut self.blocks,
+                cache: &mut self.blocks,
                 compressors,
-                core,
-                to,
-                fills,
-            );
+            };
+            return step_in(self.alloc, &mut reader, core, to, fills);
         }
         match self.open_by(env, cmp, policy, compressors, number) {
-            Ok(table) => step_in(
-                self.alloc,
-                &table,
-                env,
-                &mut self.blocks,
-                compressors,
-                core,
-                to,
-                fills,
-            ),
+            Ok(table) => {
+                let mut reader = TableReader {
+                    table: &table,
+                    env,
+                    cache: &mut self.blocks,
+                    compressors,
+                };
+                step_in(self.alloc, &mut reader, core, to, fills)
+            }
             Err(status) => {
                 reset(core);
                 Err(status)
@@ -173,24 +169,23 @@ fn reset<C: Cmp + Copy + Drop>(core: &mut Option<TableCore<C>>)
 // Makes a move in an open table, by the walk over it, or by a new one where there is none yet.
 fn step_in<E: Env, C: Cmp + Copy + Drop, FP: FilterPolicy>(
     alloc: Global,
-    table: &Table<E, C, FP>,
-    env: &mut E,
-    blocks: &mut BlockCache<C>,
-    compressors: &CompressorList,
+    reader: &mut TableReader<'_, E, C, FP>,
     core: &mut Option<TableCore<C>>,
     to: TableStep,
     fills: bool,
 ) -> Result<bool>
-    ensures { let codings = ⟦<CompressorList as Compressors>⟧.codings compressors.now in
-        StepsInOpen C.Cmp E.Env codings table.now to.entry env.old blocks.old core.old result
-        env.new blocks.new core.new }
+    ensures steps { let codings = ⟦<CompressorList as Compressors>⟧.codings in
+        StepsInOpen C.Cmp E.Env (codings reader.old.compressors.now) reader.old.table.now to.entry
+        reader.old.env.now reader.old.cache.now core.old result reader.new.env.now
+        reader.new.cache.now core.new }
+    ensures same { IsSameReader reader.old reader.new }
 {
     if let Some(core) = core {
-        return core.step(table, env, blocks, compressors, to);
+        return core.step(reader, to);
     }
-    let begun = TableCore::new(alloc, table)?;
+    let begun = TableCore::new(alloc, reader.table)?;
     let mut fresh = begun.filling(fills);
-    let there = fresh.step(table, env, blocks, compressors, to);
+    let there = fresh.step(reader, to);
     *core = Some(fresh);
     there
 }

@@ -32,7 +32,7 @@ returns-in-Some g c =
     let cache = c.open_table_by.new.self in
     let found = c.peek.ensures ∙ ap (λ k. value_of k (tables_of cache).pairs) c.table_key.ensures in
     let there : table_at cache number ≡ Some c.in-Some.table.now = sym found ∙ ap option_copied c.in-Some.is in
-    moves_open _ g.E.Env by exact refl number fits c.args.to state old core c.in_default.ensures c.step_in.result c.step_in.new.core c.in-Some.table.now there refl c.step_in.ensures
+    moves_open _ g.E.Env by exact refl number fits c.args.to state old core c.in_default.ensures c.step_in.result c.step_in.new.core c.in-Some.table.now there refl c.step_in.ensures.steps
 
 pub returns-in-Ok : goal.returns-in-Ok
 returns-in-Ok g c =
@@ -47,7 +47,7 @@ returns-in-Ok g c =
     let cache = c.open_table_by.new.self in
     let found = c.peek.ensures ∙ ap (λ k. value_of k (tables_of cache).pairs) c.table_key.ensures in
     let none : table_at cache number ≡ None = sym found ∙ ap option_copied c.in_default-peek.is in
-    moves_reopened _ g.E.Env by exact refl number fits c.args.to state old core c.in_default.ensures none c.in-Ok.table c.in-Ok.ensures c.step_in-in-Ok.result c.step_in-in-Ok.new.core c.step_in-in-Ok.ensures
+    moves_reopened _ g.E.Env by exact refl number fits c.args.to state old core c.in_default.ensures none c.in-Ok.table c.in-Ok.ensures c.step_in-in-Ok.result c.step_in-in-Ok.new.core c.step_in-in-Ok.ensures.steps
 
 pub returns-in-Err-open_by : goal.returns-in-Err-open_by
 returns-in-Err-open_by g c =

@@ -4,7 +4,7 @@ use Rattle.leveldb_table.specs.BlockCache.{cache_key}
 use Rattle.leveldb_table.specs.declared.block_cache.CachedBlock.{CachedBlock}
 use Rattle.leveldb_table.proofs.CacheLemmas.{after_put}
 use Rattle.leveldb_table.proofs.BlockCacheLemmas.{GainsBlocks-trans, GainsBlocks-look_up, GainsBlocks-put, IsCachedAt-is_there, IsBlockOfFile-copy}
-use Rattle.leveldb_table.proofs.TableBlockLemmas.{KeepsDisk-refl, reads_ok, reads_passed, reads_refused, reads_then}
+use Rattle.leveldb_table.proofs.TableBlockLemmas.{KeepsDisk-refl, reads_ok, reads_passed, reads_refused}
 use Rattle.leveldb_table.proofs.table_reader.reader.TableReader.read_block.Goals as goal
 
 pub returns-in_err-found : goal.returns-in_err-found
