@@ -1,5 +1,5 @@
 -- How a pair is added to a table builder, why that fails, and what an error leaves in the sink.
-use Rattle.std.specs.Prelude.{◌≡◌, ◌≢◌, ◌⊎◌, ℕ, ◌+◌, ◌/◌, ◌^◌, ◌<◌, true, false, List, [], ◌∷◌, length, None, Result, Ok}
+use Rattle.std.specs.Prelude.{◌≡◌, ◌≢◌, ◌⊎◌, ℕ, ◌+◌, ◌/◌, ◌^◌, ◌<◌, true, false, List, [], ◌∷◌, length, None, Result, Ok, IsErrAnd}
 use Rattle.std.specs.declared.cmp.Ordering.{Ordering}
 use Rattle.leveldb_base.specs.BlockHandle.{Handle, handle_bytes}
 use Rattle.leveldb_base.specs.Types.{Pair}
@@ -15,7 +15,7 @@ use Rattle.leveldb_table.specs.BlockBuilder.{IsMade, IsEntryTooLarge}
 use Rattle.leveldb_table.specs.Table.{with_trailer}
 use Rattle.leveldb_table.specs.PutBlock.{PutsBlock, IsNotPut, IsTooLong}
 use Rattle.leveldb_table.specs.TableBuilderStage.{Stage, with_pair, Closes}
-use Rattle.leveldb_table.specs.TableBuilder.{TableBuilt, stage, last_of, IsBegun, IsFull, IsBroken, AddsPair}
+use Rattle.leveldb_table.specs.TableBuilder.{TableBuilt, stage, last_of, order_of, policy_of, IsBegun, IsFull, IsBroken, AddsPair, MakesRoom}
 
 -- why a pair wasn't added after these entries: out of memory, or it would be one pair too many, or
 -- it is too large for the block
@@ -30,6 +30,12 @@ pub record IsStored (codings : Codings) (id : ℕ) (cmp : List ℕ → List ℕ 
   pub text : List ℕ
   pub made : IsMade cmp interval pairs text
   pub decoded : Decodes codings id stored text
+
+-- Where the id has no compressor, the call fails for that or out of memory, and nothing is put.
+abbrev pub FailsIfUnset : {S T : Type 0} → Codings → ℕ → S → Result T Status → S → Type 0
+FailsIfUnset codings id from result to =
+    codings id ≡ None → IsErrAnd result (λ status. IsUnset id status ⊎ IsOutOfMemory status)
+    × (to ≡ from)
 
 module _ {C FP : Type 0} (order : CmpGhosts C) (policy : PolicyGhosts FP) (codings : Codings)
     (core : TableBuilt C FP) where
@@ -61,14 +67,27 @@ module _ {C FP : Type 0} (order : CmpGhosts C) (policy : PolicyGhosts FP) (codin
       pub closes : ClosesOpen pair.0 bytes mid
       pub added : stage new ≡ with_pair pair mid
 
+    -- the open block was put in one put before this key, and got its line
+    abbrev pub PutsOpenBefore : List ℕ → TableBuilt C FP → S → S → Type 0
+    PutsOpenBefore next new from to =
+        (bytes : List ℕ) × puts from bytes (Ok tt) to × ClosesOpen next bytes (stage new)
+
+    -- the file so far is laid out, and this key goes into the open block, which was put before if
+    -- it was full
+    abbrev pub LaysOutFor : List ℕ → TableBuilt C FP → S → S → Type 0
+    LaysOutFor next new from to =
+        MakesRoom puts (IsBegun codings order policy core) (Decodes codings)
+        (order.accepts (order_of core)) (order.cmp (order_of core))
+        (order.shortest_sep (order_of core)) (policy.matches (policy_of core))
+        (policy.filter_for (policy_of core)) core.compressor (stage new) next from to
+
     -- there is room for a pair: the open block had it, or it was full and was put in one put, and
     -- is empty now
     abbrev pub HasRoom : List ℕ → TableBuilt C FP → S → S → Type 0
     HasRoom next new from to =
         ((IsFull core → ⊥) × (stage new ≡ stage core) × (new.block.entries ≡ core.block.entries)
         × (to ≡ from))
-        ⊎ (IsFull core × (new.block.entries ≡ []) × (bytes : List ℕ) × puts from bytes (Ok tt) to
-        × ClosesOpen next bytes (stage new))
+        ⊎ (IsFull core × (new.block.entries ≡ []) × PutsOpenBefore next new from to)
 
     -- nothing was put, or the open block's put was tried, whatever came of it
     abbrev pub TriesOpen : S → S → Type 0

@@ -15,8 +15,8 @@ use Rattle.leveldb_table.specs.Footer.{footer_bytes}
 use Rattle.leveldb_table.specs.Table.{with_trailer, filter_key}
 use Rattle.leveldb_table.specs.PutBlock.{PutsBlock, IsPutError, IsNoMetaindex, StopsFrom, StopsAtFooter}
 use Rattle.leveldb_table.specs.TableBuilderStage.{Stage}
-use Rattle.leveldb_table.specs.TableBuilder.{TableBuilt, stage, last_of, order_of, policy_of, IsBegun, IsBroken, IsBuiltTable, FinishesTable, PutsEnd}
-use Rattle.leveldb_table.specs.TableBuilderAdd.{ClosesOpen, IsNotClosed}
+use Rattle.leveldb_table.specs.TableBuilder.{TableBuilt, stage, last_of, order_of, policy_of, IsBegun, IsBroken, IsBuiltTable, FinishesTable, ClosesLast, PutsEnd}
+use Rattle.leveldb_table.specs.TableBuilderAdd.{ClosesOpen, FailsIfUnset, IsNotClosed}
 
 -- The filters of a stage whose blocks are all closed weren't made, or they weren't put after the
 -- data blocks; or they were, and then came what is said of their handle, their end and the sink.
@@ -82,6 +82,15 @@ module _ {C FP : Type 0} (order : CmpGhosts C) (policy : PolicyGhosts FP) (codin
       × ClosesOpen order policy codings core (order.short_succ core.block.cmp (last_of core)) bytes
       last)
 
+  -- the file so far is laid out, with no open block and a key that is after all blocks
+  abbrev pub LaysOutLast : TableBuilt C FP → S → S → Type 0
+  LaysOutLast new from to =
+      ClosesLast puts (IsBegun codings order policy core) (Decodes codings)
+      (order.accepts (order_of core)) (order.cmp (order_of core))
+      (order.shortest_sep (order_of core)) (order.short_succ (order_of core))
+      (policy.matches (policy_of core)) (policy.filter_for (policy_of core)) core.compressor
+      (stage new) from to
+
   -- there is an open block, and it wasn't closed so
   abbrev pub IsLeftOpen : S → Status → S → Type 0
   IsLeftOpen from status to =
@@ -103,9 +112,8 @@ module _ {C FP : Type 0} (order : CmpGhosts C) (policy : PolicyGhosts FP) (codin
   -- without a compressor an open block isn't closed, and without one at most the filters are put.
   pub record CannotFinish (from : S) (result : Result ℕ Status) (to : S) : Type 0 where
     pub broken : core.broken ≡ true → IsErrAnd result IsBroken × (to ≡ from)
-    pub unset : core.broken ≡ false → (stage core).open_pairs ≢ [] → codings core.compressor ≡ None
-        → IsErrAnd result (λ status. IsUnset core.compressor status ⊎ IsOutOfMemory status)
-        × (to ≡ from)
+    pub unset : core.broken ≡ false → (stage core).open_pairs ≢ []
+        → FailsIfUnset codings core.compressor from result to
     pub unset_rest : core.broken ≡ false → (stage core).open_pairs ≡ []
         → codings core.compressor ≡ None
         → IsErrAnd result (λ status. StopsUnset (policy.too_large core.filter.policy)
@@ -116,6 +124,20 @@ module _ {C FP : Type 0} (order : CmpGhosts C) (policy : PolicyGhosts FP) (codin
     (core : TableBuilt C FP)
     {S : Type 0} (puts : S → List ℕ → Result (Unit {0}) Status → S → Type 0)
     (flushes : S → Result (Unit {0}) Status → S → Type 0) where
+  -- what follows the data blocks was put, the table's stage being the builder's
+  abbrev pub PutsEndOf : S → ℕ → S → Type 0
+  PutsEndOf from size to =
+      PutsEnd puts flushes (Decodes codings) (order.cmp core.index.cmp)
+      (policy.filter_for (policy_of core)) core.compressor (policy.name (policy_of core))
+      (stage core) from size to
+
+  -- and why it wasn't
+  abbrev pub StopsInEnd : S → Status → S → Type 0
+  StopsInEnd from status to =
+      StopsFromFilters codings (order.cmp core.index.cmp) (policy.too_large (policy_of core))
+      (policy.filter_for (policy_of core)) core.compressor (policy.name (policy_of core))
+      (stage core) puts flushes from status to
+
   -- The table was finished by these puts and no others: one of the open block, where there is one,
   -- one each of the filters, the metaindex and the index, and one of the footer. Then the sink was
   -- flushed.

@@ -1,11 +1,11 @@
 //! The open tables of a store, each kept while there is room.
 // LevelDB: db/table_cache.cc
-ghost use Rattle.std.specs.Prelude.{◌≡◌, IfErr, IfOk, IsTrue, OnErr, OnOk, option_copied};
+ghost use Rattle.std.specs.Prelude.{◌≡◌, IfErr, IfOk, OnErr, OnOk, option_copied};
 ghost use Rattle.leveldb_base.specs.Error.{IsOutOfMemory};
 ghost use Rattle.leveldb_env.specs.Env.{Files};
 ghost use Rattle.leveldb_table.specs.TableReaderMoves.{found_with};
 ghost use Rattle.leveldb_files.specs.Stores.Format.{format_of};
-ghost use Rattle.leveldb_version.specs.Tables.TableCache.{EvictsTable, GetsPair, IsNewTableCache, LooksUpInOpen, MatchesFiles, MayFail, OpensNumbered, OpensTableAt, OpensTableFile, TableOptions, UsesTable, files_at, found_key, options_by, renewed, table_at, table_key, table_options};
+ghost use Rattle.leveldb_version.specs.Tables.TableCache.{EvictsTable, IsNewTableCache, LooksUpByNumber, MatchesFiles, OpensNumbered, OpensTableAt, OpensTableFile, TableOptions, found_key, options_by, renewed, table_at, table_key, table_options};
 
 use bytes::Bytes;
 use leveldb_base::cmp::{Cmp, InternalKeyCmp, UserCmp};
@@ -102,18 +102,9 @@ impl<E: Env, C: UserCmp + Copy + Drop, FP: FilterPolicy + Copy + Drop> TableCach
         number: FileNum,
         key: &[u8],
     ) -> Result<Option<(Bytes, Bytes)>>
-        ensures uses { let by = table_options (format_of C.Cmp FP.FilterPolicy
+        ensures { let by = table_options (format_of C.Cmp FP.FilterPolicy
             ⟦<CompressorList as Compressors>⟧.codings options.now) options.now in
-            UsesTable E.Env (MayFail E.Env by env.old self.old number) number env.old self.old
-            result env.new self.new }
-        ensures gets { let by = table_options (format_of C.Cmp FP.FilterPolicy
-            ⟦<CompressorList as Compressors>⟧.codings options.now) options.now in
-            IsTrue E.models_disk
-            → MatchesFiles ⟦<InternalKeyCmp<C> as Cmp>⟧ E.Env by (files_at E.Env env.old) self.old
-            → GetsPair ⟦<InternalKeyCmp<C> as Cmp>⟧ E.Env by number key.now env.old self.old
-            result env.new self.new }
-        ensures in_open { LooksUpInOpen ⟦<InternalKeyCmp<C> as Cmp>⟧ E.Env
-            (⟦<CompressorList as Compressors>⟧.codings options.now.compressor_list)
+            LooksUpByNumber ⟦<InternalKeyCmp<C> as Cmp>⟧ E.Env by
             ⟦<InternalFilterPolicy<FP> as FilterPolicy>⟧.matches number key.now env.old self.old
             result env.new self.new }
     {
@@ -134,18 +125,9 @@ impl<E: Env, C: UserCmp + Copy + Drop, FP: FilterPolicy + Copy + Drop> TableCach
         number: FileNum,
         key: &[u8],
     ) -> Result<Option<Bytes>>
-        ensures uses { let by = table_options (format_of C.Cmp FP.FilterPolicy
+        ensures { let by = table_options (format_of C.Cmp FP.FilterPolicy
             ⟦<CompressorList as Compressors>⟧.codings options.now) options.now in
-            UsesTable E.Env (MayFail E.Env by env.old self.old number) number env.old self.old
-            (found_with (found_key self.new) result) env.new self.new }
-        ensures gets { let by = table_options (format_of C.Cmp FP.FilterPolicy
-            ⟦<CompressorList as Compressors>⟧.codings options.now) options.now in
-            IsTrue E.models_disk
-            → MatchesFiles ⟦<InternalKeyCmp<C> as Cmp>⟧ E.Env by (files_at E.Env env.old) self.old
-            → GetsPair ⟦<InternalKeyCmp<C> as Cmp>⟧ E.Env by number key.now env.old self.old
-            (found_with (found_key self.new) result) env.new self.new }
-        ensures in_open { LooksUpInOpen ⟦<InternalKeyCmp<C> as Cmp>⟧ E.Env
-            (⟦<CompressorList as Compressors>⟧.codings options.now.compressor_list)
+            LooksUpByNumber ⟦<InternalKeyCmp<C> as Cmp>⟧ E.Env by
             ⟦<InternalFilterPolicy<FP> as FilterPolicy>⟧.matches number key.now env.old self.old
             (found_with (found_key self.new) result) env.new self.new }
     {

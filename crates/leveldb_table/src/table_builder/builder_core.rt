@@ -110,8 +110,8 @@ impl<C: Cmp + Copy, FP: FilterPolicy> BuilderCore<C, FP> {
     ghost use Rattle.leveldb_table.specs.Table.{filter_key};
     ghost use Rattle.leveldb_table.specs.TableBuilderStage.{Closes, first_key, with_pair};
     ghost use Rattle.leveldb_table.specs.TableBuilder.{IsNewBuilder, stage, last_of, order_of, policy_of, IsBegun, IsBroken, IsReady, IsReadyFor, IsClosable, KeepsChoices, StaysUnfinished, IsBuiltTable, IsFull, table_estimate, PutsEnd, ClosesLast, MakesRoom, AddsPair, FinishesTable};
-    ghost use Rattle.leveldb_table.specs.TableBuilderAdd.{TakesPair, TakesNoPair, HasRoom, IsNotClosed};
-    ghost use Rattle.leveldb_table.specs.TableBuilderFinish.{IsFinished, StopsFromFilters, ClosesRest, IsLeftOpen, IsFinishError, CannotFinish};
+    ghost use Rattle.leveldb_table.specs.TableBuilderAdd.{TakesPair, TakesNoPair, FailsIfUnset, HasRoom, IsNotClosed, LaysOutFor, PutsOpenBefore};
+    ghost use Rattle.leveldb_table.specs.TableBuilderFinish.{IsFinished, ClosesRest, IsLeftOpen, IsFinishError, CannotFinish, LaysOutLast, PutsEndOf, StopsInEnd};
 
     /// A builder under the options' order and policy as they are.
     pub fn new(alloc: Global, options: &Options<C, FP>) -> BuilderCore<C, FP>
@@ -255,10 +255,7 @@ impl<C: Cmp + Copy, FP: FilterPolicy> BuilderCore<C, FP> {
         requires sound { IsReadyFor C.accepts C.cmp self.old next.now }
         requires some { (stage self.old).open_pairs ≡ [] → (stage self.old).lines ≡ [] }
         ensures ok { let codings = ⟦<CompressorList as Compressors>⟧.codings compressors.now in
-            OnOk result (MakesRoom S.puts (IsBegun codings C.Cmp FP.FilterPolicy self.old)
-            (Decodes codings) (C.accepts (order_of self.old)) (C.cmp (order_of self.old))
-            (C.shortest_sep (order_of self.old)) (FP.matches (policy_of self.old))
-            (FP.filter_for (policy_of self.old)) self.old.compressor (stage self.new) next.now
+            OnOk result (LaysOutFor C.Cmp FP.FilterPolicy codings self.old S.puts next.now self.new
             sink.old sink.new) }
         ensures room { let codings = ⟦<CompressorList as Compressors>⟧.codings compressors.now in
             OnOk result (HasRoom C.Cmp FP.FilterPolicy codings self.old S.puts next.now self.new
@@ -268,9 +265,9 @@ impl<C: Cmp + Copy, FP: FilterPolicy> BuilderCore<C, FP> {
         ensures cause { IfErr result (λ status. IsFull self.old
             × IsNotClosed C.Cmp FP.FilterPolicy (⟦<CompressorList as Compressors>⟧.codings
             compressors.now) self.old S.puts next.now sink.old status sink.new) }
-        ensures unset { IsFull self.old → ⟦<CompressorList as Compressors>⟧.codings compressors.now
-            self.old.compressor ≡ None → IsErrAnd result (λ status.
-            IsUnset self.old.compressor status ⊎ IsOutOfMemory status) × (sink.new ≡ sink.old) }
+        ensures unset { let codings = ⟦<CompressorList as Compressors>⟧.codings compressors.now in
+            IsFull self.old
+            → FailsIfUnset codings self.old.compressor sink.old result sink.new }
     {
         if self.block.entries() > 0 && self.block.size_estimate() > self.block_size {
             return self.close_block(sink, compressors, next);
@@ -284,11 +281,8 @@ impl<C: Cmp + Copy, FP: FilterPolicy> BuilderCore<C, FP> {
         requires sound { IsReady C.accepts C.cmp self.old }
         requires some { (stage self.old).open_pairs ≡ [] → (stage self.old).lines ≡ [] }
         ensures ok { let codings = ⟦<CompressorList as Compressors>⟧.codings compressors.now in
-            OnOk result (ClosesLast S.puts (IsBegun codings C.Cmp FP.FilterPolicy self.old)
-            (Decodes codings) (C.accepts (order_of self.old)) (C.cmp (order_of self.old))
-            (C.shortest_sep (order_of self.old)) (C.short_succ (order_of self.old))
-            (FP.matches (policy_of self.old)) (FP.filter_for (policy_of self.old))
-            self.old.compressor (stage self.new) sink.old sink.new) }
+            OnOk result (LaysOutLast C.Cmp FP.FilterPolicy codings self.old S.puts self.new sink.old
+            sink.new) }
         ensures order { OnOk result (C.cmp self.new.index.cmp ≡ C.cmp (order_of self.old)) }
         ensures choices { KeepsChoices self.old self.new }
         ensures rest { let codings = ⟦<CompressorList as Compressors>⟧.codings compressors.now in
@@ -297,10 +291,9 @@ impl<C: Cmp + Copy, FP: FilterPolicy> BuilderCore<C, FP> {
         ensures cause { let codings = ⟦<CompressorList as Compressors>⟧.codings compressors.now in
             IfErr result (λ status. IsLeftOpen C.Cmp FP.FilterPolicy codings self.old S.puts
             sink.old status sink.new) }
-        ensures unset { (stage self.old).open_pairs ≢ []
-            → ⟦<CompressorList as Compressors>⟧.codings compressors.now self.old.compressor ≡ None
-            → IsErrAnd result (λ status. IsUnset self.old.compressor status ⊎ IsOutOfMemory status)
-            × (sink.new ≡ sink.old) }
+        ensures unset { let codings = ⟦<CompressorList as Compressors>⟧.codings compressors.now in
+            (stage self.old).open_pairs ≢ []
+            → FailsIfUnset codings self.old.compressor sink.old result sink.new }
     {
         if self.block.entries() == 0 {
             return Ok(());
@@ -320,11 +313,9 @@ impl<C: Cmp + Copy, FP: FilterPolicy> BuilderCore<C, FP> {
     ) -> Result<()>
         requires broken { self.old.broken ≡ true }
         requires closable { IsClosable C.accepts C.cmp self.old next.now }
-        ensures ok { OnOk result ((bytes : List ℕ) × S.puts sink.old bytes (Ok tt) sink.new
-            × Closes (Decodes (⟦<CompressorList as Compressors>⟧.codings compressors.now))
-            (C.cmp (order_of self.old)) (C.shortest_sep (order_of self.old))
-            (FP.filter_for (policy_of self.old)) self.old.compressor next.now
-            (stage self.old) bytes (stage self.new)) }
+        ensures ok { let codings = ⟦<CompressorList as Compressors>⟧.codings compressors.now in
+            OnOk result (PutsOpenBefore C.Cmp FP.FilterPolicy codings self.old S.puts next.now
+            self.new sink.old sink.new) }
         ensures ready { OnOk result
             (IsReady C.accepts C.cmp self.new × (self.new.block.entries ≡ [])) }
         ensures choices { KeepsChoices self.old self.new }
@@ -332,9 +323,8 @@ impl<C: Cmp + Copy, FP: FilterPolicy> BuilderCore<C, FP> {
         ensures cause { let codings = ⟦<CompressorList as Compressors>⟧.codings compressors.now in
             IfErr result (λ status. IsNotClosed C.Cmp FP.FilterPolicy codings self.old S.puts
             next.now sink.old status sink.new) }
-        ensures unset { ⟦<CompressorList as Compressors>⟧.codings compressors.now
-            self.old.compressor ≡ None → IsErrAnd result (λ status.
-            IsUnset self.old.compressor status ⊎ IsOutOfMemory status) × (sink.new ≡ sink.old) }
+        ensures unset { let codings = ⟦<CompressorList as Compressors>⟧.codings compressors.now in
+            FailsIfUnset codings self.old.compressor sink.old result sink.new }
     {
         let last = self.last_key();
         let separator = self
@@ -366,14 +356,12 @@ impl<C: Cmp + Copy, FP: FilterPolicy> BuilderCore<C, FP> {
     where
         C: Drop,
         FP: Drop,
-        ensures ok { IfOk result (λ size. PutsEnd S.puts S.flushes
-            (Decodes (⟦<CompressorList as Compressors>⟧.codings compressors.now))
-            (C.cmp self.index.cmp) (FP.filter_for (policy_of self)) self.compressor
-            (FP.name (policy_of self)) (stage self) sink.old size sink.new) }
-        ensures cause { IfErr result (λ status. StopsFromFilters
-            (⟦<CompressorList as Compressors>⟧.codings compressors.now) (C.cmp self.index.cmp)
-            (FP.too_large (policy_of self)) (FP.filter_for (policy_of self)) self.compressor
-            (FP.name (policy_of self)) (stage self) S.puts S.flushes sink.old status sink.new) }
+        ensures ok { let codings = ⟦<CompressorList as Compressors>⟧.codings compressors.now in
+            IfOk result (λ size. PutsEndOf C.Cmp FP.FilterPolicy codings self S.puts S.flushes
+            sink.old size sink.new) }
+        ensures cause { let codings = ⟦<CompressorList as Compressors>⟧.codings compressors.now in
+            IfErr result (λ status. StopsInEnd C.Cmp FP.FilterPolicy codings self S.puts S.flushes
+            sink.old status sink.new) }
         ensures unset { ⟦<CompressorList as Compressors>⟧.codings compressors.now self.compressor
             ≡ None → IsErr result }
     {

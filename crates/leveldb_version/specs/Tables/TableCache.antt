@@ -399,6 +399,20 @@ module _ {E C FP F : Type 0} (order : CmpGhosts (InternalKeyCmp C)) (env : EnvGh
         ⊎ LacksBlockFor key (files_at env old_env) old number status) old_env new_env result
     pub matches : MatchesFiles order env by (files_at env new_env) new
 
+  -- What a look-up of a key in the table of a number says.
+  pub record LooksUpByNumber (matches : FP → List ℕ → List ℕ → Bool) (number : ℕ) (key : List ℕ)
+      (old_env : E) (old : TableCache E C FP F) (result : Result (Option Pair) Status)
+      (new_env : E) (new : TableCache E C FP F) : Type 0 where
+    -- it uses the table, and fails for no more than a cause of opening it or a block that is lacking
+    pub uses : UsesTable env (MayFail env by old_env old number) number old_env old result new_env
+        new
+    -- on a disk that is modelled, by a cache that matches the files
+    pub gets : IsTrue env.models_disk → MatchesFiles order env by (files_at env old_env) old
+        → GetsPair number key old_env old result new_env new
+    -- if the table is open, it looks the key up in it as it is
+    pub in_open : LooksUpInOpen order env by.format.codings matches number key old_env old result
+        new_env new
+
 -- ---- laws
 
 -- A cache goes on to match files that change, if each open table's file keeps its bytes or is
