@@ -1,10 +1,10 @@
 -- A text read in pieces, and a checksum masked and unmasked.
 use Rattle.std.proofs.Common.{◌≡◌, ℕ, ◌+◌, ◌-◌, ◌*◌, ◌/◌, ◌%◌, ◌^◌, ◌<◌, List, ◌++◌, sym, ap, ◌∙◌, arith, zero, suc, refl, ap₂, zero-add, suc-add, nat_eq, cond, one-add, zero-mul, [], ◌∷◌, length, get_or, map, rules, add-zero, take, drop, fold}
 use Rattle.std.specs.Int.Bits.{bit_xor, bit_or, xor_zero_r, xor_assoc, xor_zero_l}
-use Rattle.std.specs.Int.{w32, rotate_left, rotate_right}
+use Rattle.std.specs.Int.{w32, rotate_left, rotate_right, to_le_bytes, from_le_bytes}
 use Rattle.std.proofs.lemmas.List.Sums.{fold-append}
-use Rattle.std.proofs.lemmas.Nat.{or_shifted, or_comm, xor_comm, xor_shr, xor_mod, xor_block}
-use Rattle.leveldb_base.specs.Crc.{crc_byte, crc_register, crc_of, masked, unmasked, HasRead, crc_shift, crc_shifts, crc_zeros}
+use Rattle.std.proofs.lemmas.Nat.{or_shifted, or_comm, xor_comm, xor_shr, xor_mod, xor_block, le_bytes_4}
+use Rattle.leveldb_base.specs.Crc.{crc_byte, crc_register, crc_of, masked, unmasked, HasRead, crc_shift, crc_shifts, crc_zeros, lanes_register}
 use Rattle.std.proofs.Math.Nat.{pow-suc, mul_assoc}
 use Rattle.std.specs.List.{range_with_len}
 use Rattle.std.proofs.lemmas.List.{get_or-map, length-map, take-append-drop, take_all}
@@ -353,3 +353,91 @@ crc_register-mixed register word fits long =
     in ap₂ (λ p q. crc_register 0 (bit_xor a (register % 256) ∷ bit_xor b (register / 256 % 256) ∷ bit_xor c (p % 256) ∷ bit_xor d (q % 256) ∷ [])) third last
     ∙ crc_register-mixed_in 0 register (a ∷ b ∷ c ∷ d ∷ []) fits
     ∙ ap₂ crc_register (xor_zero_l register) (four_elements word long)
+
+-- ---- four registers side by side
+
+-- four zero bytes follow a register
+four_zeros : (register : ℕ) → crc_register register (0 ∷ 0 ∷ 0 ∷ 0 ∷ []) ≡ crc_zeros 4 register
+unfolding crc_register crc_byte
+four_zeros register =
+    let none : crc_register 0 (0 ∷ 0 ∷ 0 ∷ 0 ∷ []) ≡ 0 = refl
+    in crc_register-apart register (0 ∷ 0 ∷ 0 ∷ 0 ∷ []) ∙ ap (bit_xor (crc_zeros 4 register)) none ∙ xor_zero_r (crc_zeros 4 register)
+
+-- an empty register that reads a number's bytes is that number before four zero bytes
+pub crc_register-le_bytes : (n : ℕ) → n < 2 ^ 32 → crc_register 0 (to_le_bytes w32 n) ≡ crc_zeros 4 n
+crc_register-le_bytes n fits =
+    let read : crc_register 0 (bit_xor 0 (n % 256) ∷ bit_xor 0 (n / 256 % 256) ∷ bit_xor 0 (n / 65536 % 256) ∷ bit_xor 0 (n / 16777216 % 256) ∷ [])
+    ≡ crc_register n (0 ∷ 0 ∷ 0 ∷ 0 ∷ []) = crc_register-mixed n (0 ∷ 0 ∷ 0 ∷ 0 ∷ []) fits refl
+    in let bytes : bit_xor 0 (n % 256) ∷ bit_xor 0 (n / 256 % 256) ∷ bit_xor 0 (n / 65536 % 256) ∷ bit_xor 0 (n / 16777216 % 256) ∷ [] ≡ to_le_bytes w32 n =
+    rw (xor_zero_l (n % 256), xor_zero_l (n / 256 % 256), xor_zero_l (n / 65536 % 256), xor_zero_l (n / 16777216 % 256)) refl
+    in ap (crc_register 0) (sym bytes) ∙ read ∙ four_zeros n
+
+-- a byte of four, or 0 past them
+byte_of_four : (a b c d : ℕ) → a < 256 → b < 256 → c < 256 → d < 256 → (i : ℕ) → get_or (a ∷ b ∷ c ∷ d ∷ []) i 0 < 256
+byte_of_four a b c d p q r s zero = p
+byte_of_four a b c d p q r s (suc zero) = q
+byte_of_four a b c d p q r s (suc (suc zero)) = r
+byte_of_four a b c d p q r s (suc (suc (suc zero))) = s
+byte_of_four a b c d p q r s (suc (suc (suc (suc i)))) = omega arith
+
+-- the same of the bytes that a number was read of
+pub crc_register-bytes : (a b c d n : ℕ) → a < 256 → b < 256 → c < 256 → d < 256 → n ≡ from_le_bytes w32 (a ∷ b ∷ c ∷ d ∷ []) → n < 2 ^ 32
+    → crc_register 0 (a ∷ b ∷ c ∷ d ∷ []) ≡ crc_zeros 4 n
+crc_register-bytes a b c d n p q r s is fits =
+    ap (crc_register 0) (sym (le_bytes_4 (a ∷ b ∷ c ∷ d ∷ []) n refl (byte_of_four a b c d p q r s) is)) ∙ crc_register-le_bytes n fits
+
+-- a number's bytes, and zero bytes behind them
+pub crc_zeros-le_bytes : (zeros n : ℕ) → n < 2 ^ 32 → crc_zeros zeros (crc_register 0 (to_le_bytes w32 n)) ≡ crc_zeros (4 + zeros) n
+crc_zeros-le_bytes zeros n fits = ap (crc_zeros zeros) (crc_register-le_bytes n fits) ∙ sym (crc_zeros-add 4 zeros n)
+
+-- registers that have a block's four words, the first of them after what came before
+pub lanes_register-block : (register a b c d : ℕ) (block : List ℕ) (words : List (List ℕ)) → length block ≡ 16 → words ≡ first_chunks 4 (length block / 4) block
+    → crc_register register (get_or words 0 []) ≡ crc_zeros 4 a → crc_register 0 (get_or words 1 []) ≡ crc_zeros 4 b
+    → crc_register 0 (get_or words 2 []) ≡ crc_zeros 4 c → crc_register 0 (get_or words 3 []) ≡ crc_zeros 4 d
+    → lanes_register a b c d ≡ crc_register register block
+lanes_register-block register a b c d block words long is first second third fourth =
+    let x = crc_zeros 16 a
+    in let y = crc_zeros 12 b
+    in let z = crc_zeros 8 c
+    in let w = crc_zeros 4 d
+    in let one : crc_zeros 12 (crc_register register (get_or words 0 [])) ≡ x = ap (crc_zeros 12) first ∙ sym (crc_zeros-add 4 12 a)
+    in let two : crc_zeros 8 (crc_register 0 (get_or words 1 [])) ≡ y = ap (crc_zeros 8) second ∙ sym (crc_zeros-add 4 8 b)
+    in let three : crc_zeros 4 (crc_register 0 (get_or words 2 [])) ≡ z = ap (crc_zeros 4) third ∙ sym (crc_zeros-add 4 4 c)
+    in let four : crc_zeros 0 (crc_register 0 (get_or words 3 [])) ≡ w = crc_zeros-none (crc_register 0 (get_or words 3 [])) ∙ fourth
+    in let order : bit_xor (bit_xor x y) (bit_xor z w) ≡ bit_xor (bit_xor (bit_xor y z) w) x =
+    xor_assoc x y (bit_xor z w) ∙ xor_comm x (bit_xor y (bit_xor z w)) ∙ ap (λ r. bit_xor r x) (sym (xor_assoc y z w))
+    in order ∙ sym (ap₂ bit_xor (ap₂ bit_xor (ap₂ bit_xor two three) four) one) ∙ crc_register-block register block words long is
+
+-- registers that are sums
+lanes_register-xor : (a b c d p q r s : ℕ)
+    → lanes_register (bit_xor a p) (bit_xor b q) (bit_xor c r) (bit_xor d s) ≡ bit_xor (lanes_register a b c d) (lanes_register p q r s)
+lanes_register-xor a b c d p q r s =
+    ap₂ bit_xor
+    (ap₂ bit_xor (crc_zeros-xor 16 a p) (crc_zeros-xor 12 b q) ∙ xor_swap (crc_zeros 16 a) (crc_zeros 16 p) (crc_zeros 12 b) (crc_zeros 12 q))
+    (ap₂ bit_xor (crc_zeros-xor 8 c r) (crc_zeros-xor 4 d s) ∙ xor_swap (crc_zeros 8 c) (crc_zeros 8 r) (crc_zeros 4 d) (crc_zeros 4 s))
+    ∙ xor_swap (bit_xor (crc_zeros 16 a) (crc_zeros 12 b)) (bit_xor (crc_zeros 16 p) (crc_zeros 12 q)) (bit_xor (crc_zeros 8 c) (crc_zeros 4 d))
+    (bit_xor (crc_zeros 8 r) (crc_zeros 4 s))
+
+-- zero bytes before others
+crc_zeros-swap : (m n register : ℕ) → crc_zeros m (crc_zeros n register) ≡ crc_zeros n (crc_zeros m register)
+crc_zeros-swap m n register =
+    let sum : n + m ≡ m + n = omega arith
+    in sym (crc_zeros-add n m register) ∙ ap (λ count. crc_zeros count register) sum ∙ crc_zeros-add m n register
+
+-- a block's worth of zero bytes follows each
+lanes_register-zeros : (a b c d : ℕ) → lanes_register (crc_zeros 16 a) (crc_zeros 16 b) (crc_zeros 16 c) (crc_zeros 16 d) ≡ crc_zeros 16 (lanes_register a b c d)
+lanes_register-zeros a b c d =
+    ap₂ bit_xor
+    (ap (bit_xor (crc_zeros 16 (crc_zeros 16 a))) (crc_zeros-swap 12 16 b) ∙ sym (crc_zeros-xor 16 (crc_zeros 16 a) (crc_zeros 12 b)))
+    (ap₂ bit_xor (crc_zeros-swap 8 16 c) (crc_zeros-swap 4 16 d) ∙ sym (crc_zeros-xor 16 (crc_zeros 8 c) (crc_zeros 4 d)))
+    ∙ sym (crc_zeros-xor 16 (bit_xor (crc_zeros 16 a) (crc_zeros 12 b)) (bit_xor (crc_zeros 8 c) (crc_zeros 4 d)))
+
+-- registers after one block more, whose own are these
+pub lanes_register-after : (a b c d p q r s : ℕ) (block : List ℕ) → length block ≡ 16 → lanes_register p q r s ≡ crc_register 0 block
+    → lanes_register (bit_xor (crc_zeros 16 a) p) (bit_xor (crc_zeros 16 b) q) (bit_xor (crc_zeros 16 c) r) (bit_xor (crc_zeros 16 d) s)
+    ≡ crc_register (lanes_register a b c d) block
+lanes_register-after a b c d p q r s block long alone =
+    let before = lanes_register a b c d
+    in lanes_register-xor (crc_zeros 16 a) (crc_zeros 16 b) (crc_zeros 16 c) (crc_zeros 16 d) p q r s
+    ∙ ap₂ bit_xor (lanes_register-zeros a b c d) alone
+    ∙ sym (crc_register-apart before block ∙ ap (λ count. bit_xor (crc_zeros count before) (crc_register 0 block)) long)

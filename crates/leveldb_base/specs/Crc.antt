@@ -24,6 +24,13 @@ crc_register register text = fold crc_byte register text
 unfoldable pub crc_zeros : ℕ → ℕ → ℕ
 crc_zeros bytes register = crc_shifts (8 * bytes) register
 
+-- What four registers side by side stand for that took the words of blocks in turn: so many bytes
+-- follow each of them.
+abbrev pub lanes_register : ℕ → ℕ → ℕ → ℕ → ℕ
+lanes_register first second third fourth =
+    bit_xor (bit_xor (crc_zeros 16 first) (crc_zeros 12 second))
+    (bit_xor (crc_zeros 8 third) (crc_zeros 4 fourth))
+
 -- the register of a digest that has read the text: it is all ones at first
 abbrev pub HasRead : ℕ → List ℕ → Type 0
 HasRead register text = register ≡ crc_register 0xffffffff text
