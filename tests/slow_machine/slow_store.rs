@@ -54,7 +54,7 @@ struct Held {
 #[derive(Debug, Drop, PartialEq)]
 struct State {
     history: Vec<usize>,
-    covered: usize,
+    durable: usize,
     held: Vec<Held>,
     /// The numbers that were given to snapshots since the store was opened.
     given: Vec<u64>,
@@ -66,7 +66,7 @@ impl State {
     fn copy(&self) -> Result<State> {
         Ok(State {
             history: self.history.clone()?,
-            covered: self.covered,
+            durable: self.durable,
             held: self.held.clone()?,
             given: self.given.clone()?,
             pending: self.pending,
@@ -92,10 +92,10 @@ impl State {
         Ok(state)
     }
 
-    /// With all of the history covered, where that is said.
-    fn covering(mut self, all: bool) -> State {
+    /// With all of the history durable, where that is said.
+    fn with_durable(mut self, all: bool) -> State {
         if all {
-            self.covered = self.history.len();
+            self.durable = self.history.len();
         }
         self
     }
@@ -122,14 +122,14 @@ fn add_state(states: &mut Vec<State>, state: State) -> Result<()> {
     Ok(())
 }
 
-/// Adds what a crash may leave of a state: each beginning that has all that was covered, of the
-/// history and this batch behind it.
-fn add_beginnings(states: &mut Vec<State>, state: &State, batch: Option<usize>) -> Result<()> {
+/// Adds what a crash may leave of a state: each prefix that has all that was durable, of the
+/// history and this batch after it.
+fn add_prefixes(states: &mut Vec<State>, state: &State, batch: Option<usize>) -> Result<()> {
     let whole = state.bare(Mode::Closed, batch)?;
-    for count in state.covered..=whole.history.len() {
+    for count in state.durable..=whole.history.len() {
         let mut left = whole.copy()?;
         left.history.truncate(count);
-        add_state(states, left.covering(true))?;
+        add_state(states, left.with_durable(true))?;
     }
     Ok(())
 }
@@ -146,8 +146,8 @@ pub enum Found<'a> {
 /// leaves the states that it allows: none where the answer was wrong.
 ///
 /// Numbers of entries are never seen but by their order. So all states number alike, from one past
-/// all numbers given before. And what a sync covered that wasn't asked for is left out: a crash may
-/// then leave more states, never fewer.
+/// all numbers given before. And that a sync made more durable than was asked for is left out: a
+/// crash may then leave more states, never fewer.
 #[derive(Drop)]
 pub struct SlowStore {
     alloc: Global,
@@ -162,7 +162,7 @@ impl SlowStore {
         let mut states = Vec::new(alloc);
         states.push(State {
             history: Vec::new(alloc),
-            covered: 0,
+            durable: 0,
             held: Vec::new(alloc),
             given: Vec::new(alloc),
             pending: None,
@@ -217,7 +217,7 @@ impl SlowStore {
             if state.mode == Mode::Open {
                 let mut written = state.copy()?;
                 written.history.push(batch)?;
-                add_state(&mut states, written.covering(sync))?;
+                add_state(&mut states, written.with_durable(sync))?;
             }
         }
         self.states = states;
@@ -247,7 +247,7 @@ impl SlowStore {
         let mut states = Vec::new(self.alloc);
         for state in &self.states {
             if state.mode == Mode::Open {
-                add_state(&mut states, state.copy()?.covering(true))?;
+                add_state(&mut states, state.copy()?.with_durable(true))?;
             }
         }
         self.states = states;
@@ -331,7 +331,7 @@ impl SlowStore {
     pub fn crashed(&mut self) -> Result<()> {
         let mut states = Vec::new(self.alloc);
         for state in &self.states {
-            add_beginnings(&mut states, state, state.pending)?;
+            add_prefixes(&mut states, state, state.pending)?;
         }
         self.states = states;
         Ok(())
@@ -346,7 +346,7 @@ impl SlowStore {
                 Mode::Open => Some(batch),
                 Mode::Broken | Mode::Closed => state.pending,
             };
-            add_beginnings(&mut states, state, in_hand)?;
+            add_prefixes(&mut states, state, in_hand)?;
         }
         self.states = states;
         Ok(())

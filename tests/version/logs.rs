@@ -194,7 +194,7 @@ fn failed_rename_names_either_manifest(rt: HostRuntime) -> Result<()> {
     Ok(())
 }
 
-/// An edit that is refused for want of memory leaves the set's files, and either the manifest too,
+/// An edit that is refused out of memory leaves the set's files, and either the manifest too,
 /// so that the edit may be logged again, or a set that takes no edit any more.
 #[test]
 fn refused_edits_leave_the_files_of_the_set(rt: HostRuntime) -> Result<()> {
@@ -217,7 +217,7 @@ fn is_logged_again(alloc: Global, stored: &mut Stored<MemEnv>) -> Result<bool> {
     }
 }
 
-/// A recovery that is refused for want of memory leaves the set, and may be done again.
+/// A recovery that is refused out of memory leaves the set, and may be done again.
 #[test]
 fn refused_recoveries_leave_the_set(rt: HostRuntime) -> Result<()> {
     let mut stored = Stored::beside_a_store(rt.alloc(), MemEnv::new(rt.alloc()))?;

@@ -46,6 +46,27 @@ impl Move {
             _ => Ok(()),
         }
     }
+
+    // Makes this move of a walk.
+    fn apply<E, T, W: Walk<E, T>>(&self, walk: &mut W, env: &mut E, tables: &mut T) -> Result<()>
+        ensures { MovesWalk W.over W.is_at W.here W.fails W.keeps
+            (λ world it order pairs position. W.is_at world it order pairs position
+            × AcceptsKeyOf order self.now) (position_moved self.now) (env.old, tables.old) walk.old
+            result (env.new, tables.new) walk.new }
+    {
+        match self {
+            Move::First => walk.seek_to_first(env, tables),
+            Move::Next => {
+                walk.advance(env, tables)?;
+                Ok(())
+            }
+            Move::Prev => {
+                walk.prev(env, tables)?;
+                Ok(())
+            }
+            Move::Seek(key) => walk.seek(env, tables, key),
+        }
+    }
 }
 
 /// Makes these moves one after another. `steps`, which has room for them, gains where each led.
@@ -84,7 +105,7 @@ pub fn make_move<E, T, W: Walk<E, T>>(
         walk.reset();
         return Step::Refused(status);
     }
-    if let Err(status) = make_one(walk, env, tables, one) {
+    if let Err(status) = one.apply(walk, env, tables) {
         return Step::Refused(status);
     }
     match copy_pair(alloc, walk.current()) {
@@ -94,31 +115,5 @@ pub fn make_move<E, T, W: Walk<E, T>>(
             walk.reset();
             Step::Refused(status)
         }
-    }
-}
-
-// Makes a move.
-fn make_one<E, T, W: Walk<E, T>>(
-    walk: &mut W,
-    env: &mut E,
-    tables: &mut T,
-    one: &Move,
-) -> Result<()>
-    ensures { MovesWalk W.over W.is_at W.here W.fails W.keeps
-        (λ world it order pairs position. W.is_at world it order pairs position
-        × AcceptsKeyOf order one.now) (position_moved one.now) (env.old, tables.old) walk.old
-        result (env.new, tables.new) walk.new }
-{
-    match one {
-        Move::First => walk.seek_to_first(env, tables),
-        Move::Next => {
-            walk.advance(env, tables)?;
-            Ok(())
-        }
-        Move::Prev => {
-            walk.prev(env, tables)?;
-            Ok(())
-        }
-        Move::Seek(key) => walk.seek(env, tables, key),
     }
 }

@@ -6,7 +6,7 @@ use Rattle.std.proofs.lemmas.Bool.{cases_lt}
 use Rattle.std.proofs.lemmas.List.{get_or_append_left, get_or-append-add, get_or-replicate, get_or-take, length-take-le, take-map, drop-map, take_rest, drop-drop, take-append-le, drop-append-le, take_all, nil_from_length}
 use Rattle.std.proofs.lemmas.List.Sums.{sum_by-append, sum_by-cons, sum_by-take-drop}
 use Rattle.leveldb_base.specs.Types.{Pair}
-use Rattle.leveldb_mem.specs.Placed.{head, head_words, link, level, last_after, AreLinkedAt, IsNode, IsSkipList, IsPathTo, IsLaid, place_of, pair_of_node, pairs_of_nodes, nodes_after, bytes_of, key_start, key_end, value_end}
+use Rattle.leveldb_mem.specs.Placed.{head, head_words, link, level, last_after, AreLinkedAt, IsNode, IsSkipList, IsPathTo, IsLaid, place_of, pair_of_node, pairs_of_nodes, nodes_after, pairs_length, key_start, key_end, value_end}
 use Rattle.leveldb_mem.proofs.PathLemmas.{last_place}
 use Rattle.leveldb_mem.proofs.PlacedLemmas.{rank-same, level-keep, all_nodes, skip_list, length-nodes_after, length-pairs_of_nodes}
 use Rattle.leveldb_mem.proofs.InsertionLemmas.{Links, before_within, same_map, new_skip, new_order, new_lasts, new_pairs}
@@ -50,7 +50,7 @@ module _ {text words last : List ℕ} {count end : ℕ} (laid : IsLaid text word
     counted = laid.counted;
     linked = laid.linked;
     lasts = laid.lasts;
-    filled = ap bytes_of (pairs-append more) ∙ laid.filled;
+    filled = ap pairs_length (pairs-append more) ∙ laid.filled;
   }
 
   pub laid-take : IsLaid (take end text) words last count end
@@ -60,7 +60,7 @@ module _ {text words last : List ℕ} {count end : ℕ} (laid : IsLaid text word
     counted = laid.counted;
     linked = laid.linked;
     lasts = laid.lasts;
-    filled = ap bytes_of pairs-take ∙ laid.filled;
+    filled = ap pairs_length pairs-take ∙ laid.filled;
   }
 
 head_alone : (end : ℕ) → IsSkipList head_words end []
@@ -95,7 +95,7 @@ laid-head {text} {words} {last} {count} {end} laid empty words' is =
         counted = omega (arith, none);
         linked = λ _. subst (λ w. IsSkipList w end (nodes_after words' head count)) (sym is) (subst (λ ns. IsSkipList head_words end ns) (sym new) (head_alone end));
         lasts = λ k h. laid.lasts k h ∙ ap (λ ns. last_after head (level words k ns)) old ∙ ap (λ ns. last_after head (level words' k ns)) (sym new);
-        filled = ap bytes_of (new_pairs ∙ sym old_pairs) ∙ laid.filled;
+        filled = ap pairs_length (new_pairs ∙ sym old_pairs) ∙ laid.filled;
       },
       new_pairs ∙ sym old_pairs,
       new ∙ sym old,
@@ -244,8 +244,8 @@ module _ {text words last : List ℕ} {count end : ℕ} (laid : IsLaid text word
         sym (length-append (take key_length (drop end text)) (drop key_length (drop end text)))
         ∙ ap length (take-append-drop key_length (drop end text)) ∙ length-drop end text
 
-    bytes_of-insert : (pairs : List Pair) (pair : Pair) → bytes_of (insert pairs at pair) ≡ bytes_of pairs + (length pair.0 + length pair.1)
-    bytes_of-insert pairs pair =
+    pairs_length-insert : (pairs : List Pair) (pair : Pair) → pairs_length (insert pairs at pair) ≡ pairs_length pairs + (length pair.0 + length pair.1)
+    pairs_length-insert pairs pair =
         let size = λ (p : Pair). length p.0 + length p.1 in
         let whole = sum_by-append size (take at pairs) (pair ∷ drop at pairs) in
         let more = sum_by-cons size pair (drop at pairs) in
@@ -264,7 +264,7 @@ module _ {text words last : List ℕ} {count end : ℕ} (laid : IsLaid text word
       linked = λ _. subst (λ ns. IsSkipList words' (length text) ns) (sym order_is) (new_skip (laid.linked opened) links (take at (nodes_after words head count)) (drop at (nodes_after words head count)) (sym (take-append-drop at (nodes_after words head count))) to laid.within value_end_is);
       lasts = subst (λ ns. IsPathTo words' last' 12 ns) (sym order_is)
           (new_lasts (laid.linked opened) links (take at (nodes_after words head count)) (drop at (nodes_after words head count)) (sym (take-append-drop at (nodes_after words head count))) to laid.within value_end_is last last' laid.lasts none some other);
-      filled = ap bytes_of pairs_placed ∙ bytes_of-insert (pairs_of_nodes text words (nodes_after words head count)) rest_pair ∙ omega (arith, length-rest_pair, laid.filled, laid.within);
+      filled = ap pairs_length pairs_placed ∙ pairs_length-insert (pairs_of_nodes text words (nodes_after words head count)) rest_pair ∙ omega (arith, length-rest_pair, laid.filled, laid.within);
     }
 
 -- the last nodes are the path to the end

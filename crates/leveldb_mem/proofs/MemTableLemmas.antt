@@ -34,7 +34,7 @@ use Rattle.leveldb_mem.specs.Searching.{key_at, count_while, IsParted}
 use Rattle.leveldb_mem.specs.SkipMap.{IsSorted, InsertsPair}
 use Rattle.leveldb_mem.proofs.Rising.{is_less, rising_at, not_less}
 use Rattle.leveldb_mem.proofs.WriteBatchLemmas.{length-batch}
-use Rattle.leveldb_mem.specs.Placed.{bytes_of, memory_of, FailsToReserve}
+use Rattle.leveldb_mem.specs.Placed.{pairs_length, map_memory, FailsToReserve}
 use Rattle.leveldb_mem.proofs.Halving.{before_count, at_count, count_before-is, PassesBefore}
 
 -- ---- entries and their memtable keys
@@ -290,7 +290,7 @@ module _ {accepts : List ℕ → Bool} {cmp : List ℕ → List ℕ → Ordering
 -- ---- what counts as the memory of entries, and the room that a batch needs
 
 -- pairs that are memtable keys have as many bytes as the keys of their entries
-same_bytes : (pairs : List Pair) → All IsEntryPair pairs → bytes_of pairs ≡ sum_by (λ entry. length (entry_key entry)) (entries_of_keys pairs)
+same_bytes : (pairs : List Pair) → All IsEntryPair pairs → pairs_length pairs ≡ sum_by (λ entry. length (entry_key entry)) (entries_of_keys pairs)
 same_bytes [] each = refl
 same_bytes (pair ∷ pairs) each =
     let head = All-head IsEntryPair pair pairs each in
@@ -299,7 +299,7 @@ same_bytes (pair ∷ pairs) each =
     let key_size = λ (entry : Entry). length (entry_key entry) in
     omega (arith, rest, ap length head.0, ap length head.1, sum_by-cons size pair pairs, sum_by-cons key_size (entry_from pair.0) (entries_of_keys pairs))
 
-pub same_memory : (pairs : List Pair) → All IsEntryPair pairs → memory_of pairs ≡ memory_of_entries (entries_of_keys pairs)
+pub same_memory : (pairs : List Pair) → All IsEntryPair pairs → map_memory pairs ≡ memory_of_entries (entries_of_keys pairs)
 same_memory pairs each = omega (arith, same_bytes pairs each, length-map pairs (λ (pair : Pair). entry_from pair.0))
 
 entry-le : (item : Item) → length (change_bytes item) < 2 ^ 64 → length (change_bytes item) ≤ 21 + length item.key + value_length item.value
@@ -371,7 +371,7 @@ module _ (pairs pairs' : List Pair) (each : All IsEntryPair pairs) (old_places o
     kept_bytes = omega (arith, err);
     cause =
         ⊎_elim
-        (λ (past : (status.code ≡ NotSupported) × (2 ^ 32 ≤ memory_of pairs + (64 * places + sum))). inl (past.0, omega (arith, past.1, same_memory pairs each)))
+        (λ (past : (status.code ≡ NotSupported) × (2 ^ 32 ≤ map_memory pairs + (64 * places + sum))). inl (past.0, omega (arith, past.1, same_memory pairs each)))
         (λ (memory : IsOutOfMemory status). inr memory) cause;
   }
 

@@ -159,8 +159,8 @@ abbrev pub place_of : List ℕ → List ℕ → ℕ
 place_of nodes path = rank (head ∷ nodes) (slice_index path 0)
 
 -- how many bytes the keys and values have together
-abbrev pub bytes_of : List Pair → ℕ
-bytes_of pairs = sum_by (λ pair. length pair.0 + length pair.1) pairs
+abbrev pub pairs_length : List Pair → ℕ
+pairs_length pairs = sum_by (λ pair. length pair.0 + length pair.1) pairs
 
 -- What a map's pairs are: the head is there before the first node, and the pairs fill the text up
 -- to its end.
@@ -176,19 +176,19 @@ pub record IsLaid (text words last : List ℕ) (count end : ℕ) : Type 0 where
   -- the last node of each height is known, after which a rising key comes
   pub lasts : IsPathTo words last most_height (nodes_after words head count)
   -- keys and values fill the text up to the end
-  pub filled : bytes_of (pairs_of_nodes text words (nodes_after words head count)) ≡ end
+  pub filled : pairs_length (pairs_of_nodes text words (nodes_after words head count)) ≡ end
 
 -- ---- room
 
 -- what counts as memory: 128, and for each pair 64 and the lengths of key and value
-abbrev pub memory_of : List Pair → ℕ
-memory_of pairs = 128 + (64 * length pairs + bytes_of pairs)
+abbrev pub map_memory : List Pair → ℕ
+map_memory pairs = 128 + (64 * length pairs + pairs_length pairs)
 
 -- Why no room was made for `count` pairs with `bytes` bytes: memory is out, or 32 bits can't number
 -- them, which takes pairs that would count for 2^32 bytes of memory.
 abbrev pub FailsToReserve : List Pair → ℕ → ℕ → Status → Type 0
 FailsToReserve pairs count bytes status =
-    ((status.code ≡ NotSupported) × (2 ^ 32 ≤ memory_of pairs + (64 * count + bytes)))
+    ((status.code ≡ NotSupported) × (2 ^ 32 ≤ map_memory pairs + (64 * count + bytes)))
     ⊎ IsOutOfMemory status
 
 -- what making room for `count` pairs with `size` bytes returns and leaves

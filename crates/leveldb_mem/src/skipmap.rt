@@ -7,7 +7,7 @@ ghost use Rattle.leveldb_base.specs.Cmp.{memtable_accepts};
 ghost use Rattle.leveldb_base.specs.KeyTypes.{front_key, user_part, sequence_part, memtable_cmp};
 ghost use Rattle.leveldb_base.specs.Types.{seek_position, position_within, previous_position};
 ghost use Rattle.leveldb_base.specs.Types.{last_position, pair_at};
-ghost use Rattle.leveldb_mem.specs.Placed.{rank, memory_of, FailsToReserve};
+ghost use Rattle.leveldb_mem.specs.Placed.{rank, map_memory, FailsToReserve};
 ghost use Rattle.leveldb_mem.specs.Searching.{key_at, count_while, IsParted};
 ghost use Rattle.leveldb_mem.specs.SkipMap.{IsSorted, HasNode, position_of_node, key_begins};
 ghost use Rattle.leveldb_mem.specs.SkipMap.{InsertResult, PutKeyResult};
@@ -116,7 +116,7 @@ impl<C: Cmp> SkipMap<C> {
     /// Returns what counts as the map's memory: 128, and for each pair 64 and the lengths of key
     /// and value.
     pub fn approx_memory(&self) -> usize
-        ensures { result ≡ memory_of self.now.pairs }
+        ensures { result ≡ map_memory self.now.pairs }
     {
         128 + self.pairs.memory()
     }

@@ -22,9 +22,11 @@ pub mod RepairBearsLemmas
 pub mod RepairChildrenLemmas
 pub mod RepairFailsLemmas
 mod RepairStoreLemmas
+pub mod TablePartsLemmas
 mod RepairWriteLemmas
 mod RepairLookLemmas
 mod RepairWalksLemmas
 mod RepairFindLemmas
 mod RepairWholeLemmas
 pub mod RepairAgainLemmas
+pub mod RepairPartsLemmas

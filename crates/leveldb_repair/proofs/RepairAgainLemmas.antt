@@ -24,7 +24,7 @@ use Rattle.leveldb_repair.specs.RepairLaws.{AnotherRepairChangesNothing, CrashLe
 use Rattle.leveldb_repair.specs.RepairStore.{HoldsAllFound}
 
 -- the bytes of a file, none where it is missing
-abbrev bytes_at : Option File → List ℕ
+abbrev pub bytes_at : Option File → List ℕ
 bytes_at None = []
 bytes_at (Some file) = bytes_of file
 

@@ -17,7 +17,7 @@ use Rattle.leveldb_store.specs.Compactions.Merging.{LeavesFiles}
 use Rattle.leveldb_store.specs.Openings.OpensStore.{IsBareFolder}
 use Rattle.leveldb_repair.proofs.RepairFailsLemmas.{fails_earlier, fails_weaker}
 use Rattle.leveldb_repair.specs.FoundWalkTable.{FailsBetweenOr}
-use Rattle.leveldb_repair.specs.RepairStore.{ArePairsFound, AreTooManyFound, HasClash, HasLargeBatchInLog, HasTooFewNumbers, HasUndecodedTable, HasUnlikeDeletions, IsMomentOfRepair, HoldsAllFound, RepairsStore, WhyNotEnded, WhyNotBegun}
+use Rattle.leveldb_repair.specs.RepairStore.{ArePairsFound, AreTooManyFound, HasClash, HasLargeBatchInLog, HasTooFewNumbers, HasUndecodedTable, HasUnlikeDeletions, IsMomentOfRepair, IsOldOrPartlyRepaired, HoldsAllFound, RepairsStore, WhyNotEnded, WhyNotBegun}
 
 -- what the compressors of a format decode means the same
 pub decodes_by : {format : Format} {meaning : Meaning} → Agrees format meaning
@@ -93,6 +93,7 @@ module _ {C FP : Type 0} {order : CmpGhosts C} {filters : FilterGhosts FP}
   not_repaired {from} {to} {status} leaves cause = record {
     ok = tt;
     moments = λ modelled meaning agrees. Run-mono (λ files same. inl same) (leaves.run modelled);
+    parts = λ modelled meaning agrees. Run-mono (λ files same. inl same) (leaves.run modelled);
     bytes = λ modelled appended.
         subst AppendedAreBytes (sym (leaves.run modelled).has) appended;
     locks = leaves.locks;
@@ -127,19 +128,18 @@ module _ {C FP : Type 0} {order : CmpGhosts C} {filters : FilterGhosts FP}
         (env.observed to)) (same_files modelled)
         (it, Run-trans before (λ now is. is) run)
 
-    moments_after : {to : E} → IsTrue env.models_disk → (meaning : Meaning)
-        → Run (IsMomentOfRepair store choices.format meaning (env.observed mid).disk.files)
-        (env.observed mid) (env.observed to)
-        → Run (IsMomentOfRepair store choices.format meaning (env.observed from).disk.files)
-        (env.observed from) (env.observed to)
-    moments_after {to} modelled meaning run =
+    -- the moments of a repair of the same files
+    moments_after : {to : E} → IsTrue env.models_disk → (Moment : Files → Files → Type 0)
+        → ((old now : Files) → now ≡ old → Moment old now)
+        → Run (Moment (env.observed mid).disk.files) (env.observed mid) (env.observed to)
+        → Run (Moment (env.observed from).disk.files) (env.observed from) (env.observed to)
+    moments_after {to} modelled Moment still run =
         let files : Files = (env.observed mid).disk.files in
-        let before : Run (IsMomentOfRepair store choices.format meaning files) (env.observed from)
-        (env.observed mid) =
-        Run-mono (λ now same. inl (same ∙ sym (same_files modelled))) (leaves.run modelled) in
-        subst (λ (old : Files). Run (IsMomentOfRepair store choices.format meaning old)
-        (env.observed from) (env.observed to)) (same_files modelled)
-        (Run-trans before (λ now is. is) run)
+        let before : Run (Moment files) (env.observed from) (env.observed mid) =
+        Run-mono (λ now same. still files now (same ∙ sym (same_files modelled)))
+        (leaves.run modelled) in
+        subst (λ (old : Files). Run (Moment old) (env.observed from) (env.observed to))
+        (same_files modelled) (Run-trans before (λ now is. is) run)
 
     -- so is why it isn't ended
     ended_after : {status : Status} → WhyNotEnded choices env store mid status
@@ -183,8 +183,12 @@ module _ {C FP : Type 0} {order : CmpGhosts C} {filters : FilterGhosts FP}
         → RepairsStore choices env store from result to
     repairs_after (Ok done) r = record {
       ok = λ modelled meaning agrees. ok_after modelled meaning (r.ok modelled meaning agrees);
-      moments = λ modelled meaning agrees.
-          moments_after modelled meaning (r.moments modelled meaning agrees);
+      moments = λ modelled meaning agrees. moments_after modelled
+          (IsMomentOfRepair store choices.format meaning) (λ old now same. inl same)
+          (r.moments modelled meaning agrees);
+      parts = λ modelled meaning agrees. moments_after modelled
+          (IsOldOrPartlyRepaired choices store meaning) (λ old now same. inl same)
+          (r.parts modelled meaning agrees);
       bytes = λ modelled appended.
           r.bytes modelled (subst AppendedAreBytes (sym (same_files modelled)) appended);
       locks = λ modelled. r.locks modelled ∙ leaves.locks modelled;
@@ -193,8 +197,12 @@ module _ {C FP : Type 0} {order : CmpGhosts C} {filters : FilterGhosts FP}
     }
     repairs_after (Err status) r = record {
       ok = tt;
-      moments = λ modelled meaning agrees.
-          moments_after modelled meaning (r.moments modelled meaning agrees);
+      moments = λ modelled meaning agrees. moments_after modelled
+          (IsMomentOfRepair store choices.format meaning) (λ old now same. inl same)
+          (r.moments modelled meaning agrees);
+      parts = λ modelled meaning agrees. moments_after modelled
+          (IsOldOrPartlyRepaired choices store meaning) (λ old now same. inl same)
+          (r.parts modelled meaning agrees);
       bytes = λ modelled appended.
           r.bytes modelled (subst AppendedAreBytes (sym (same_files modelled)) appended);
       locks = λ modelled. r.locks modelled ∙ leaves.locks modelled;

@@ -2,7 +2,7 @@
 -- and at its end it is.
 use Rattle.std.specs.Prelude.{All, Contains, IsTrue, IsUtf8, Result}
 use Rattle.std.specs.List.Sorted.{IsStrictlySortedBy}
-use Rattle.std.proofs.Common.{◌≡◌, ◌≤◌, ◌<◌, ◌+◌, ◌-◌, ◌^◌, ◌⊎◌, ◌∙◌, inl, inr, ⊎_elim, ℕ, List, [], ◌∷◌, ◌++◌, Ok, Err, refl, sym, ap, subst, arith, length}
+use Rattle.std.proofs.Common.{◌≡◌, ◌≤◌, ◌<◌, ◌+◌, ◌-◌, ◌^◌, ◌⊎◌, ◌∙◌, inl, inr, ⊎_elim, ℕ, List, [], ◌∷◌, ◌++◌, Option, Ok, Err, refl, sym, ap, subst, arith, length}
 use Rattle.std.proofs.lemmas.List.Elements.{All-contains, All-nil, Contains-append_left}
 use Rattle.std.specs.declared.cmp.Ordering.{Ordering}
 use Rattle.std.proofs.Math.Arith.{lt_of_le-ne}
@@ -18,9 +18,9 @@ use Rattle.leveldb_base.specs.declared.cmp.Cmp.{Ghosts as CmpGhosts}
 use Rattle.leveldb_base.specs.declared.error.Status.{Status}
 use Rattle.leveldb_base.specs.declared.error.StatusCode.TheVariants.{NotSupported}
 use Rattle.leveldb_base.specs.declared.types.FileMetaData.{FileMetaData}
-use Rattle.leveldb_base.specs.declared.types.FileType.TheVariants.{Current, DBLock, Table}
+use Rattle.leveldb_base.specs.declared.types.FileType.TheVariants.{Current, DBLock, Descriptor, Table, Temp}
 use Rattle.leveldb_env.proofs.EnvLemmas.{Run-call, Run-mono, Run-trans}
-use Rattle.leveldb_env.specs.Env.{AppendedAreBytes, ChangesFiles, Files, FilesUnchanged, Run}
+use Rattle.leveldb_env.specs.Env.{AppendedAreBytes, ChangesFiles, File, Files, FilesUnchanged, Observed, Run, bytes_of}
 use Rattle.leveldb_env.specs.EnvFile.{failed}
 use Rattle.leveldb_env.specs.WholeFiles.{IsLostUnobserved}
 use Rattle.leveldb_env.specs.declared.env.Env.{Ghosts as EnvGhosts}
@@ -40,7 +40,7 @@ use Rattle.leveldb_version.specs.Repairs.Found.{AreFound, IsAnyTable}
 use Rattle.leveldb_version.specs.Sets.NewManifest.{MakingManifest, with_manifest}
 use Rattle.leveldb_version.specs.Sets.NewStore.{MakesManifest}
 use Rattle.leveldb_version.specs.Engines.Opening.{FitsEdit}
-use Rattle.leveldb_files.specs.Stores.Paths.{current_path, lock_path}
+use Rattle.leveldb_files.specs.Stores.Paths.{current_path, lock_path, table_path}
 use Rattle.leveldb_version.specs.Repairs.Repairing.{IsGreatestInFolder, IsRepairedStore, IsAmidRepair, ManifestRepairs, repaired_edit, repaired_manifest}
 use Rattle.leveldb_files.specs.Edits.Edit.{Edit, IsEncodable, NewFile, file_order}
 use Rattle.leveldb_version.specs.Edits.VersionEdit.{new_file_of}
@@ -48,12 +48,14 @@ use Rattle.leveldb_store.specs.Tables.BuildTable.{TableChoices}
 use Rattle.leveldb_store.specs.Compactions.Merging.{AreRead, BearsNewTables, FailsOnWay, IsMergeFault, LeavesFiles}
 use Rattle.leveldb_store.specs.Tables.Outputs.{ChangesNewTables, SameButNewTables}
 use Rattle.leveldb_store.specs.Tables.TableFile.{FailsToWrite}
+use Rattle.leveldb_store.specs.Tables.TableParts.{HaveTableParts, IsSameOrPart}
 use Rattle.leveldb_repair.proofs.RepairFailsLemmas.{fails_weaker}
 use Rattle.leveldb_repair.proofs.RepairNumbersLemmas.{AreRepairedOf, tables_repaired}
 use Rattle.leveldb_repair.proofs.RepairStoreLemmas.{decodes_by}
+use Rattle.leveldb_repair.proofs.TablePartsLemmas.{part_weaker}
 use Rattle.leveldb_repair.specs.FoundWalkTable.{FailsBetweenOr}
 use Rattle.leveldb_repair.specs.RepairSteps.{AreAllFound, IsOverAll, IsToRepair}
-use Rattle.leveldb_repair.specs.RepairStore.{ArePairsFound, AreTooManyFound, IsMomentOfRepair, HoldsAllFound, RepairsStore, WhyNotEnded, WhyNotBegun}
+use Rattle.leveldb_repair.specs.RepairStore.{ArePairsFound, AreTooManyFound, HasFoundEntry, IsMomentOfRepair, IsOldOrPartlyRepaired, HoldsAllFound, RepairsStore, WhyNotEnded, WhyNotBegun}
 use Rattle.leveldb_repair.specs.WriteFound.{HasWritten, WritesFound, files_of_level_one, merge_of_all}
 use Rattle.leveldb_repair.specs.declared.look_over.LookedOver.{LookedOver}
 
@@ -84,6 +86,27 @@ module _ (store : List ℕ) (taken next : ℕ) (old now : Files)
     begun = begun;
     fits = fits;
   }
+
+-- the files of a run have both at each moment
+run_both : {P Q : Files → Type 0} {first now : Observed} → Run P first now → Run Q first now
+    → Run (λ files. P files × Q files) first now
+run_both one other = record {
+  has = (one.has, other.has);
+  time = record {
+    later = one.time.later;
+    before = one.time.before;
+    meanwhile = λ m files from until was.
+        (one.time.meanwhile m files from until was, other.time.meanwhile m files from until was);
+    kept = one.time.kept;
+  };
+}
+
+-- a file of two later moments between which it is the same
+same_or_part : {C FP : Type 0} {order : CmpGhosts C} {filters : FilterGhosts FP}
+    (choices : TableChoices order filters) (Has : Pair → Type 0) {old mid now : Option File}
+    → now ≡ mid → IsSameOrPart choices Has old mid → IsSameOrPart choices Has old now
+same_or_part choices Has same (inl still) = inl (same ∙ still)
+same_or_part choices Has same (inr (file, there, part)) = inr (file, same ∙ there, part)
 
 -- ---- the edit
 
@@ -163,6 +186,24 @@ module _ {C FP : Type 0} {order : CmpGhosts C} {filters : FilterGhosts FP}
       some = is.some;
       current = inl (current_stays store taken next old now same);
     })
+
+    -- each new table is a part of one of found entries
+    abbrev ArePartsOfFound : Files → Type 0
+    ArePartsOfFound = HaveTableParts choices (HasFoundEntry choices store meaning old) store
+        (taken + 2) next old
+
+    tables_parts : {to : E} → TablesChange next to
+        → Run ArePartsOfFound (env.observed from) (env.observed to)
+        → Run (IsOldOrPartlyRepaired choices store meaning old) (env.observed from)
+        (env.observed to)
+    tables_parts tables parts = Run-mono
+        (λ now (both : SameButNewTables store (taken + 2) next old now × ArePartsOfFound now).
+        inr (record {
+          taken = taken;
+          next = next;
+          repairing = tables_repair store taken next old now both.0 is.taken_is begun fits;
+          parts = both.1;
+        })) (run_both tables parts)
 
     -- ---- the manifest
 
@@ -244,6 +285,20 @@ module _ {C FP : Type 0} {order : CmpGhosts C} {filters : FilterGhosts FP}
             at_end now) (sym repaired.files_are) making));
       })
 
+      -- no table is the manifest or its temporary file
+      table_stays : (now : Files) → MakingManifest store (taken + 1) bytes at_end now → (n : ℕ)
+          → n < next → now (table_path store n) ≡ at_end (table_path store n)
+      table_stays now making n below =
+          let small : taken + 1 < 2 ^ 64 = omega (arith, begun, fits) in
+          let table = made_name Table n (omega (arith, below, fits)) in
+          making.others (table_path store n)
+          (kinds_apart store (file_name Descriptor (taken + 1)) (file_name Table n) (taken + 1) n
+          Descriptor Table (made_name Descriptor (taken + 1) small) table (λ d. cc))
+          (kinds_apart store (file_name Temp (taken + 1)) (file_name Table n) (taken + 1) n Temp
+          Table (made_name Temp (taken + 1) small) table (λ d. cc))
+          (kinds_apart store (file_name Current 0) (file_name Table n) 0 n Current Table
+          (made_name Current 0 refl) table (λ d. cc))
+
       module _ {to : E} {result : Result (Unit {0}) Status}
           (makes : ChangesFiles env.models_disk (with_manifest store (taken + 1) bytes)
           (MakingManifest store (taken + 1) bytes) (env.observed end) (env.observed to) result)
@@ -251,6 +306,19 @@ module _ {C FP : Type 0} {order : CmpGhosts C} {filters : FilterGhosts FP}
           named_moments : Run (IsMomentOfRepair store choices.format meaning old) (env.observed from)
               (env.observed to)
           named_moments = Run-trans (Run-mono at_tables tables) at_named (Run-call modelled makes)
+
+          named_parts : Run ArePartsOfFound (env.observed from) (env.observed end)
+              → Run (IsOldOrPartlyRepaired choices store meaning old) (env.observed from)
+              (env.observed to)
+          named_parts parts = Run-trans (tables_parts tables parts)
+              (λ now (making : MakingManifest store (taken + 1) bytes at_end now). inr (record {
+                taken = taken;
+                next = next;
+                repairing = while_named now making;
+                parts = λ n first below. same_or_part choices
+                    (HasFoundEntry choices store meaning old) (table_stays now making n below)
+                    (parts.has n first below);
+              })) (Run-call modelled makes)
 
           named_run : Run (IsAmidRepair store taken next old) (env.observed from) (env.observed to)
           named_run = Run-trans (Run-mono (λ now same.
@@ -291,16 +359,54 @@ module _ {C FP : Type 0} {order : CmpGhosts C} {filters : FilterGhosts FP}
       path apart. same path apart ∙ ap (λ (files : Files). files path) first.has)
       (changes.run modelled)
 
+  -- at each moment new tables are parts of such as have some of the walk's pairs
+  abbrev HasParts : ℕ → E → Type 0
+  HasParts next end = BearsNewTables env walk store (taken + 2) start → (pairs : List Pair)
+      → walk.over start it (key_order order choices.cmp) pairs → IsTrue env.models_disk
+      → Run (HaveTableParts choices (Contains pairs) store (taken + 2) next
+      (env.observed start.0).disk.files) (env.observed start.0) (env.observed end)
+
+  -- so they are parts of such as have found entries
+  found_parts : {next : ℕ} {end : E} → HasParts next end → IsTrue env.models_disk
+      → (meaning : Meaning) → Agrees choices.format meaning
+      → Run (HaveTableParts choices (HasFoundEntry choices store meaning before) store (taken + 2)
+      next before) (env.observed from) (env.observed end)
+  found_parts {next} {end} parts modelled meaning agrees =
+      let all = is.over modelled in
+      let first = leaves.run modelled in
+      Run-trans (Run-mono (λ now same n low high.
+      inl (ap (λ (files : Files). files (table_path store n)) same)) first)
+      (λ now (its : HaveTableParts choices (Contains all.1) store (taken + 2) next
+      (env.observed start.0).disk.files now) n low high.
+      by all.1 all.3 (ap (λ (files : Files). files (table_path store n)) first.has)
+      (its n low high))
+      (parts is.bears all.1 all.2 modelled)
+    where
+      by : (pairs : List Pair) → AreAllFound store choices.format before pairs found
+          → {old mid now : Option File} → mid ≡ old → IsSameOrPart choices (Contains pairs) mid now
+          → IsSameOrPart choices (HasFoundEntry choices store meaning before) old now
+      by pairs all same (inl still) = inl (still ∙ same)
+      by pairs all same (inr (file, there, part)) = inr (
+        file,
+        there,
+        part_weaker choices (bytes_of file) (λ pair c.
+            (all.found_is meaning (decodes_by agrees) (entry_of_pair pair)).0
+            (map_in entry_of_pair pairs pair c)) part,
+      )
+
   -- it isn't ended
   not_ended : {next : ℕ} {end : E} {status : Status} → taken + 2 ≤ next → next < 2 ^ 64
-      → ChangesNewTables env store (taken + 2) next start.0 end
+      → ChangesNewTables env store (taken + 2) next start.0 end → HasParts next end
       → FailsBetweenOr env (WhyNotEnded choices env store from status) from end status
       → RepairsStore choices env store from (Err status) end
-  not_ended {end = end} {status = status} begun fits changes cause = record {
+  not_ended {end = end} {status = status} begun fits changes parts cause = record {
     ok = tt;
     moments = λ modelled meaning agrees. Run-mono
         (at_tables choices env store taken from meaning (is.over modelled).0 begun fits)
         (tables_change modelled changes);
+    parts = λ modelled meaning agrees.
+        tables_parts choices env store taken from meaning (is.over modelled).0 begun fits
+        (tables_change modelled changes) (found_parts parts modelled meaning agrees);
     bytes = λ modelled appended. changes.bytes modelled
         (subst AppendedAreBytes (sym (leaves.run modelled).has) appended);
     locks = λ modelled. changes.locks modelled ∙ leaves.locks modelled;
@@ -419,27 +525,30 @@ module _ {C FP : Type 0} {order : CmpGhosts C} {filters : FilterGhosts FP}
       → WritesFound choices env store (taken + 2) walk items start it (Err status) later end
       → RepairsStore choices env store from (Err status) end.0
   unwritten items begun fits writes =
-      not_ended begun fits writes.changes (write_cause leaves.later writes.few writes.cause)
+      not_ended begun fits writes.changes writes.parts
+      (write_cause leaves.later writes.few writes.cause)
 
   -- the numbers are used up
   pub used_up : {later : ℕ} {end : E} {status : Status} → taken + 2 ≤ later
       → later ≡ 2 ^ 64 - 1 → ChangesNewTables env store (taken + 2) later start.0 end
+      → HasParts later end
       → (BearsNewTables env walk store (taken + 2) start → (pairs : List Pair)
       → walk.over start it (key_order order choices.cmp) pairs
       → later ≤ taken + 2 + length pairs)
       → status.code ≡ NotSupported → RepairsStore choices env store from (Err status) end
-  used_up begun most changes few code = not_ended begun (omega (arith, most)) changes
+  used_up begun most changes parts few code = not_ended begun (omega (arith, most)) changes parts
       (inr (inr (inr (inr (inl (code, many_found most few))))))
 
   -- memory is out
   pub no_memory : {later : ℕ} {end : E} {status : Status} → taken + 2 ≤ later
       → later < 2 ^ 64 → ChangesNewTables env store (taken + 2) later start.0 end
-      → IsOutOfMemory status → RepairsStore choices env store from (Err status) end
-  no_memory begun fits changes memory = not_ended begun fits changes (inl memory)
+      → HasParts later end → IsOutOfMemory status
+      → RepairsStore choices env store from (Err status) end
+  no_memory begun fits changes parts memory = not_ended begun fits changes parts (inl memory)
 
   module _ {next : ℕ} {end : E} {files : List FileMetaData} {read : List Pair}
       (begun : taken + 2 ≤ next) (fits : next + 1 < 2 ^ 64)
-      (changes : ChangesNewTables env store (taken + 2) next start.0 end)
+      (changes : ChangesNewTables env store (taken + 2) next start.0 end) (parts : HasParts next end)
       (written : HasWritten choices env store (taken + 2) read next files end)
       (all : BearsNewTables env walk store (taken + 2) start → (pairs : List Pair)
       → walk.over start it (key_order order choices.cmp) pairs → pairs ≡ read)
@@ -471,6 +580,14 @@ module _ {C FP : Type 0} {order : CmpGhosts C} {filters : FilterGhosts FP}
       ended_moments modelled meaning agrees = named_moments choices env store taken from meaning
           (is.over modelled).0 begun small_next modelled agrees (all_read modelled) written
           (tables_change modelled changes) can (makes.does modelled)
+
+      ended_parts : IsTrue env.models_disk → (meaning : Meaning) → Agrees choices.format meaning
+          → Run (IsOldOrPartlyRepaired choices store meaning before) (env.observed from)
+          (env.observed to)
+      ended_parts modelled meaning agrees = named_parts choices env store taken from meaning
+          (is.over modelled).0 begun small_next modelled agrees (all_read modelled) written
+          (tables_change modelled changes) can (makes.does modelled)
+          (found_parts parts modelled meaning agrees)
 
       ended_bytes : IsTrue env.models_disk → AppendedAreBytes before
           → AppendedAreBytes (env.observed to).disk.files
@@ -506,6 +623,7 @@ module _ {C FP : Type 0} {order : CmpGhosts C} {filters : FilterGhosts FP}
           modelled agrees (all_read modelled) written (tables_change modelled changes) can does
           (does.ok modelled);
       moments = ended_moments makes;
+      parts = ended_parts makes;
       bytes = ended_bytes makes;
       locks = λ modelled. makes.locks modelled ∙ changes.locks modelled ∙ leaves.locks modelled;
       later = let one = counted makes in let other = makes.cause in
@@ -515,6 +633,7 @@ module _ {C FP : Type 0} {order : CmpGhosts C} {filters : FilterGhosts FP}
     ended (Err status) makes = record {
       ok = tt;
       moments = ended_moments makes;
+      parts = ended_parts makes;
       bytes = ended_bytes makes;
       locks = λ modelled. makes.locks modelled ∙ changes.locks modelled ∙ leaves.locks modelled;
       later = let one = counted makes in let other = makes.cause in

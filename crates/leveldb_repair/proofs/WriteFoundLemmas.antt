@@ -115,6 +115,7 @@ module _ {C FP : Type 0} {order : CmpGhosts C} {filters : FilterGhosts FP}
     ok = (merged.ok.0, written merged.ok.1, merged.ok.2);
     changes = merged.changes;
     few = merged.few;
+    parts = merged.parts;
     comes = merged.comes;
     cause = tt;
   }
@@ -122,6 +123,7 @@ module _ {C FP : Type 0} {order : CmpGhosts C} {filters : FilterGhosts FP}
     ok = tt;
     changes = merged.changes;
     few = merged.few;
+    parts = merged.parts;
     comes = merged.comes;
     cause = merged.cause;
   }

@@ -23,6 +23,7 @@ use Rattle.leveldb_files.specs.Levels.Levels.{LiveTable, table_entries}
 use Rattle.leveldb_files.specs.Stores.Paths.{current_path}
 use Rattle.leveldb_version.specs.Repairs.Repairing.{IsGreatestInFolder, IsRepairedStore, IsAmidRepair}
 use Rattle.leveldb_store.specs.Tables.BuildTable.{AreSomeNotBuilt, TableChoices}
+use Rattle.leveldb_store.specs.Tables.TableParts.{HaveTableParts}
 use Rattle.leveldb_store.specs.Openings.Listing.{MatchesName}
 use Rattle.leveldb_store.specs.Openings.OpensStore.{IsBareFolder}
 use Rattle.leveldb_store.specs.Keeping.SoundCall.{BytesAreAppended}
@@ -68,6 +69,27 @@ module _ (store : List ℕ) (format : Format) (meaning : Meaning) (old : Files) 
   -- the files at a moment of a repair: as they were, or as it has come to them
   abbrev pub IsMomentOfRepair : Files → Type 0
   IsMomentOfRepair now = (now ≡ old) ⊎ HoldsOldOrAllFound now
+
+-- ---- what there is of its tables
+
+module _ {C FP : Type 0} {order : CmpGhosts C} {filters : FilterGhosts FP}
+    (choices : TableChoices order filters) (store : List ℕ) (meaning : Meaning) (old : Files) where
+  -- the pair's entry is found of the old files
+  abbrev pub HasFoundEntry : Pair → Type 0
+  HasFoundEntry pair =
+      IsFound store (IsAnyTable choices.format.order meaning) old (entry_of_pair pair)
+
+  -- A repair of the old files has come to these, ended or not: no file has changed but those of a
+  -- repair, and each new table is a part of one whose entries are all found.
+  pub record IsPartlyRepaired (now : Files) : Type 0 where
+    pub taken : ℕ
+    pub next : ℕ
+    pub repairing : IsAmidRepair store taken next old now
+    pub parts : HaveTableParts choices HasFoundEntry store (taken + 2) next old now
+
+  -- the files at a moment of a repair: as they were, or as it has come to them
+  abbrev pub IsOldOrPartlyRepaired : Files → Type 0
+  IsOldOrPartlyRepaired now = (now ≡ old) ⊎ IsPartlyRepaired now
 
 -- ---- why nothing is repaired
 
@@ -180,6 +202,10 @@ module _ {C FP : Type 0} {order : CmpGhosts C} {filters : FilterGhosts FP}
       -- now and at each moment the files are those of a moment of it, also where it fails
       pub moments : IsTrue env.models_disk → (meaning : Meaning) → Agrees choices.format meaning
           → Run (IsMomentOfRepair store choices.format meaning (env.observed from).disk.files)
+          (env.observed from) (env.observed to)
+      -- and each new table is a part of one of found entries, so that another repair finds the same
+      pub parts : IsTrue env.models_disk → (meaning : Meaning) → Agrees choices.format meaning
+          → Run (IsOldOrPartlyRepaired choices store meaning (env.observed from).disk.files)
           (env.observed from) (env.observed to)
       -- what was appended to files are bytes still
       pub bytes : BytesAreAppended env from to

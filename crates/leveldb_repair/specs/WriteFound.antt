@@ -8,6 +8,7 @@ use Rattle.leveldb_base.specs.Types.{Pair}
 use Rattle.leveldb_base.specs.declared.cmp.Cmp.{Ghosts as CmpGhosts}
 use Rattle.leveldb_base.specs.declared.error.Status.{Status}
 use Rattle.leveldb_base.specs.declared.types.FileMetaData.{FileMetaData}
+use Rattle.leveldb_env.specs.Env.{Run}
 use Rattle.leveldb_env.specs.EnvFile.{failed}
 use Rattle.leveldb_env.specs.declared.env.Env.{Ghosts as EnvGhosts}
 use Rattle.leveldb_env.specs.declared.filter.FilterPolicy.{Ghosts as FilterGhosts}
@@ -27,6 +28,7 @@ use Rattle.leveldb_store.specs.Tables.BuildTable.{TableChoices}
 use Rattle.leveldb_store.specs.Compactions.Merging.{BearsNewTables, IsReachedFrom, FailsOnWay, IsMergeFault, Merge, all_pairs, merge_of}
 use Rattle.leveldb_store.specs.Tables.Outputs.{AreTables, ChangesNewTables}
 use Rattle.leveldb_store.specs.Tables.TableFile.{FailsToWrite}
+use Rattle.leveldb_store.specs.Tables.TableParts.{HaveTableParts}
 
 -- ---- numbers
 
@@ -91,6 +93,11 @@ module _ {C FP : Type 0} {order : CmpGhosts C} {filters : FilterGhosts FP}
       pub few : BearsNewTables env walk store first start → (pairs : List Pair)
           → walk.over start it (key_order order choices.cmp) pairs
           → later ≤ first + length pairs
+      -- now and at each moment on the way a new table is a part of one of some of the list's pairs
+      pub parts : BearsNewTables env walk store first start → (pairs : List Pair)
+          → walk.over start it (key_order order choices.cmp) pairs → IsTrue env.models_disk
+          → Run (HaveTableParts choices (Contains pairs) store first later
+          (env.observed start.0).disk.files) (env.observed start.0) (env.observed end.0)
       -- moves of the walk and new tables lead to where it ends, so that what both keep is kept
       pub comes : IsReachedFrom env walk store first start end
       -- A move failed; or, after some pairs were read, at last a call that writes. Where the walk

@@ -2,3 +2,4 @@
 pub mod BuildTable
 pub mod TableFile
 pub mod Outputs
+pub mod TableParts

@@ -10,6 +10,7 @@ ghost use Rattle.leveldb_store.specs.Tables.BuildTable.{choices_of};
 ghost use Rattle.leveldb_store.specs.Tables.Outputs.{AddsPair, AreCutBefore, AreTables, ChangesNewTables, FinishesOpen, HaveOutputs, IsBeginFault, PutsPair, is_due, no_outputs};
 ghost use Rattle.leveldb_store.specs.Writing.Switch.{MayGiveNumber};
 ghost use Rattle.leveldb_store.specs.Tables.TableFile.{FailsToWrite};
+ghost use Rattle.leveldb_store.specs.Tables.TableParts.{WritesParts};
 
 use crate::table_file::{TableFile, copied_key, new_builder};
 use leveldb_base::cmp::{Cmp, InternalKeyCmp, UserCmp};
@@ -210,6 +211,10 @@ impl<E: Env, C: UserCmp + Copy + Drop, FP: FilterPolicy + Copy + Drop> Outputs<E
             env.new self.new tables ((key.now, value.now) ∷ [])) }
         ensures changes { ChangesNewTables E.Env store.now versions.old.set.next_file
             versions.new.set.next_file env.old env.new }
+        ensures parts { let choices = choices_of C.Cmp FP.FilterPolicy
+            ⟦<InternalKeyCmp<C> as Cmp>⟧ ⟦<InternalFilterPolicy<FP> as FilterPolicy>⟧
+            ⟦<CompressorList as Compressors>⟧.codings options.now in
+            WritesParts choices E.Env ((key.now, value.now) ∷ []) env.old env.new }
         ensures cause { let choices = choices_of C.Cmp FP.FilterPolicy
             ⟦<InternalKeyCmp<C> as Cmp>⟧ ⟦<InternalFilterPolicy<FP> as FilterPolicy>⟧
             ⟦<CompressorList as Compressors>⟧.codings options.now in

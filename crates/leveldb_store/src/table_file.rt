@@ -1,12 +1,12 @@
 //! A table that goes to its file block by block.
 // LevelDB: db/builder.cc
-ghost use Rattle.std.specs.Prelude.{◌≡◌, ◌<◌, ◌^◌, ◌-◌, ◌↔◌, IfErr, IfOk, IsTrue, OnOk, false, min, nat_lt, true};
+ghost use Rattle.std.specs.Prelude.{◌≡◌, ◌<◌, ◌^◌, ◌-◌, ◌↔◌, IfErr, IfOk, IsTrue, OnErr, OnOk, false, min, nat_lt, true};
 ghost use Rattle.std.specs.declared.cmp.Ordering.TheVariants.{Less};
 ghost use Rattle.leveldb_base.specs.Error.{IsOutOfMemory};
 ghost use Rattle.leveldb_env.specs.Env.{AreBytes, BeforeOrAfter, ChangesFiles, HasCause, SameLocks, emptied};
 ghost use Rattle.leveldb_env.specs.EnvFile.{opened};
 ghost use Rattle.leveldb_table.specs.TableBuilder.{IsNewBuilder, KeepsChoices, last_of, order_of, table_estimate};
-ghost use Rattle.leveldb_store.specs.Tables.TableFile.{AddsToFile, FinishesFile, IsAddFault, IsFinishFault, IsMetadataOf, IsThere, StopsWriting};
+ghost use Rattle.leveldb_store.specs.Tables.TableFile.{AddsToFile, FinishesFile, IsAddFault, IsFinishFault, IsMetadataOf, IsThere, LeavesPart, MayPut, StopsWriting};
 
 use bytes::Bytes;
 use leveldb_base::cmp::{Cmp, InternalKeyCmp, UserCmp};
@@ -38,6 +38,9 @@ fn add_pair<E: Env, C: Cmp + Copy, FP: FilterPolicy>(
         IfErr result (λ status. IsThere E.Env (opened env.old file.old) → StopsWriting E.Env
         (IsAddFault C.Cmp FP.FilterPolicy codings core.old (key.now, value.now))
         (opened env.old file.old) status env.new) }
+    ensures left { let codings = ⟦<CompressorList as Compressors>⟧.codings compressors.now in
+        OnErr result (LeavesPart E.Env (MayPut C.Cmp FP.FilterPolicy codings core.old)
+        (opened env.old file.old) env.new) }
     ensures choices { KeepsChoices core.old core.new }
 {
     core.add(&mut EnvFile { env, file }, compressors, key, value)
@@ -58,6 +61,9 @@ fn finish_table<E: Env, C: Cmp + Copy + Drop, FP: FilterPolicy + Drop>(
         IfErr result (λ status. IsThere E.Env (opened env.old file.old) → StopsWriting E.Env
         (IsFinishFault C.Cmp FP.FilterPolicy codings core) (opened env.old file.old) status
         env.new) }
+    ensures left { let codings = ⟦<CompressorList as Compressors>⟧.codings compressors.now in
+        OnErr result (LeavesPart E.Env (MayPut C.Cmp FP.FilterPolicy codings core)
+        (opened env.old file.old) env.new) }
 {
     core.finish(&mut EnvFile { env, file }, compressors)
 }
@@ -137,6 +143,9 @@ impl<E: Env, C: Cmp + Copy + Drop, FP: FilterPolicy + Drop> TableFile<E, C, FP> 
             IfErr result (λ status. IsThere E.Env (opened env.old self.old.file)
             → StopsWriting E.Env (IsAddFault C.Cmp FP.FilterPolicy codings self.old.core
             (key.now, value.now)) (opened env.old self.old.file) status env.new) }
+        ensures left { let codings = ⟦<CompressorList as Compressors>⟧.codings compressors.now in
+            OnErr result (LeavesPart E.Env (MayPut C.Cmp FP.FilterPolicy codings self.old.core)
+            (opened env.old self.old.file) env.new) }
         ensures choices { KeepsChoices self.old.core self.new.core }
         ensures same { (self.new.number ≡ self.old.number)
             × (self.new.smallest ≡ self.old.smallest) }
@@ -176,6 +185,9 @@ impl<E: Env, C: Cmp + Copy + Drop, FP: FilterPolicy + Drop> TableFile<E, C, FP> 
             IfErr result (λ status. IsThere E.Env (opened env.old self.file) → StopsWriting E.Env
             (IsFinishFault C.Cmp FP.FilterPolicy codings self.core) (opened env.old self.file)
             status env.new) }
+        ensures left { let codings = ⟦<CompressorList as Compressors>⟧.codings compressors.now in
+            OnErr result (LeavesPart E.Env (MayPut C.Cmp FP.FilterPolicy codings self.core)
+            (opened env.old self.file) env.new) }
     {
         let TableFile {
             alloc,

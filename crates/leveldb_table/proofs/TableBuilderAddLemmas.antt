@@ -45,7 +45,7 @@ module _ {C FP : Type 0} (order : CmpGhosts C) (policy : PolicyGhosts FP) (codin
   tries_closed next from status to (inl h) = inl h.0
   tries_closed next from status to (inr (inl (text, made, inl h))) = inl h.0
   tries_closed next from status to (inr (inl (text, made, inr (inl h)))) = inl h.0
-  tries_closed next from status to (inr (inl (text, made, inr (inr (stored, decoded, inl put))))) = inr (stored, record { text = text; made = made; decoded = decoded }, Err status, put)
+  tries_closed next from status to (inr (inl (text, made, inr (inr (stored, decoded, inl (fits, put)))))) = inr (stored, record { text = text; made = made; decoded = decoded }, Err status, put)
   tries_closed next from status to (inr (inl (text, made, inr (inr (stored, decoded, inr h))))) = inl h.0
   tries_closed next from status to (inr (inr (handle, (stored, is, end, placed), why))) = inr (stored, is, Ok tt, placed.put)
 

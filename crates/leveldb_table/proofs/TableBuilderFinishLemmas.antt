@@ -1,6 +1,6 @@
 -- The data blocks of a table that ends: each index key parts its block's keys from the next
 -- block's, and each key passes the filters.
-use Rattle.std.proofs.Common.{◌≡◌, ◌≢◌, ℕ, Bool, true, List, [], ◌∷◌, ◌++◌, flat_map, Option, codes, refl, sym, ◌∙◌, ap, subst, None, Some, ◌+◌, length, map, arith, append_assoc, length-append, ◌⊎◌, Result, Ok, Err, inl, inr}
+use Rattle.std.proofs.Common.{◌≡◌, ◌≢◌, ℕ, zero, suc, Bool, true, List, [], ◌∷◌, ◌++◌, flat_map, Option, codes, refl, sym, ◌∙◌, ap, subst, None, Some, ◌+◌, length, map, arith, append_assoc, length-append, ◌⊎◌, ⊎_elim, Result, Ok, Err, inl, inr}
 use Rattle.std.proofs.lemmas.List.{append-nil, append_cancel_left}
 use Rattle.std.specs.List.{AllByRecursion}
 use Rattle.std.specs.Option.{option_map_or}
@@ -11,21 +11,23 @@ use Rattle.leveldb_base.specs.Cmp.{IsPreorderOn, IsSeparator, IsSuccessor}
 use Rattle.leveldb_base.specs.CmpLaws.{itself_equal}
 use Rattle.leveldb_base.specs.Types.{Pair}
 use Rattle.leveldb_base.specs.BlockHandle.{Handle, handle_bytes}
+use Rattle.leveldb_base.specs.declared.cmp.Cmp.{Ghosts as CmpGhosts}
 use Rattle.leveldb_base.specs.declared.error.Status.{Status}
-use Rattle.leveldb_env.specs.FilterBlock.{FiltersBuilt, IsKeyKept, KeepsKeys, finished, passes}
+use Rattle.leveldb_env.specs.FilterBlock.{FiltersBuilt, with_filters, IsKeyKept, KeepsKeys, finished, passes}
 use Rattle.leveldb_env.specs.Compressor.{Codings, Decodes, Coding, IsEncodeError, IsUnset, decoded_under}
 use Rattle.leveldb_env.specs.Sink.{PutsAll}
+use Rattle.leveldb_env.specs.declared.filter.FilterPolicy.{Ghosts as PolicyGhosts}
 use Rattle.leveldb_table.specs.Block.{RiseAfter, KeysRise, IsBlock}
 use Rattle.leveldb_table.specs.BlockBuilder.{last_added, block_made}
 use Rattle.leveldb_table.specs.Table.{Part, IsPart, IsAtOrAfterAll, IsBeforeAll, AreParted, PartPasses, AllPass, filter_key, StoresAt, IsStoredUnder, with_trailer, index_pair, AreLinked, blocks_len, keys_for, filters_before, filters_for, HasFiltersAt, FiltersHold, HasTableBlocks, IsWritten}
-use Rattle.leveldb_table.specs.TableBuilderStage.{Stage, first_key, AreSeparated, KeepsAll, IsLaidOut}
-use Rattle.leveldb_table.specs.TableBuilder.{PutsEnd, SeparatesUsers, MatchesByUser, IsEnd, IsPlaced, IsMeaningOf, AreMade, BuildsTable, IsBuiltTable, IsLast}
+use Rattle.leveldb_table.specs.TableBuilderStage.{Stage, first_key, AreSeparated, KeepsAll, IsLaidOut, IsSound}
+use Rattle.leveldb_table.specs.TableBuilder.{TableBuilt, stage, last_of, IsBegun, PutsEnd, SeparatesUsers, MatchesByUser, IsEnd, IsPlaced, IsMeaningOf, AreMade, BuildsTable, IsBuiltTable, IsLast}
 use Rattle.leveldb_table.specs.Footer.{footer_bytes}
 use Rattle.leveldb_table.specs.PutBlock.{PutsBlock, IsNoMetaindex, StopsFrom}
-use Rattle.leveldb_table.specs.TableBuilderFinish.{StopsFromFilters, StopsFromMetaindex, StopsFromIndex, StopsUnset}
+use Rattle.leveldb_table.specs.TableBuilderFinish.{IsRest, StopsFromFilters, StopsFromMetaindex, StopsFromIndex, StopsUnset}
 use Rattle.leveldb_table.proofs.TableLemmas.{all_left, all_right, all_with, last_after, last_holds, reaches, all_append, turned_from}
 use Rattle.leveldb_table.proofs.FooterLemmas.{length-footer_bytes}
-use Rattle.leveldb_table.proofs.TableBuilderStageLemmas.{part_more, made_more, under_more}
+use Rattle.leveldb_table.proofs.TableBuilderStageLemmas.{laid_closed, last_open, part_more, made_more, under_more}
 
 -- ---- some pairs, and more of them
 
@@ -592,3 +594,125 @@ PutsEnd-same puts flushes {Decodes} {cmp} {other} make name {id} {other_id} {pol
     subst (λ n. PutsEnd puts flushes Decodes other (make other_policy) n (name other_policy) stage from size to) same_id
     (subst (λ p. PutsEnd puts flushes Decodes other (make p) id (name p) stage from size to) same_policy
     (subst (λ o. PutsEnd puts flushes Decodes o (make policy) id (name policy) stage from size to) ordered end))
+
+-- ---- the rest of a table
+
+-- filters that are made leave the policy
+policy_with : {FP : Type 0} (make : List (List ℕ) → List ℕ) (count : ℕ)
+    (building : FiltersBuilt FP) → (with_filters make count building).policy ≡ building.policy
+policy_with make zero building = refl
+policy_with make (suc others) building = refl
+
+module _ {C FP : Type 0} (ordered : CmpGhosts C) (filters : PolicyGhosts FP) (codings : Codings)
+    (core : TableBuilt C FP)
+    (order : IsPreorderOn (ordered.accepts core.block.cmp) (ordered.cmp core.block.cmp))
+    (separates : (a b : List ℕ) → ordered.accepts core.block.cmp a ≡ true
+    → ordered.accepts core.block.cmp b ≡ true → ordered.cmp core.block.cmp a b ≢ Greater
+    → IsSeparator (ordered.accepts core.block.cmp) (ordered.cmp core.block.cmp) a b
+    (ordered.shortest_sep core.block.cmp a b))
+    (succeeds : (key : List ℕ) → ordered.accepts core.block.cmp key ≡ true
+    → IsSuccessor (ordered.accepts core.block.cmp) (ordered.cmp core.block.cmp) key
+    (ordered.short_succ core.block.cmp key))
+    (keeps : KeepsKeys FP filters.filter_for filters.matches) where
+  abbrev succ : List ℕ → List ℕ
+  succ = ordered.short_succ core.block.cmp
+
+  abbrev LaidOut : Stage FP → List ℕ → List ℕ → List Pair → Type 0
+  LaidOut = IsLaidOut (Decodes codings) (ordered.accepts core.block.cmp)
+      (ordered.cmp core.block.cmp) (ordered.shortest_sep core.block.cmp)
+      (filters.matches core.filter.policy) (filters.filter_for core.filter.policy) core.compressor
+
+  -- what is put after blocks that are all closed
+  rest_after : (last : Stage FP) (next written bytes : List ℕ) (pairs : List Pair) (size : ℕ)
+      → last.filter.policy ≡ core.filter.policy
+      → (last.interval ≡ core.block.interval) × (last.index_interval ≡ core.index.interval)
+      → LaidOut last next written pairs
+      → IsLast (ordered.accepts core.block.cmp) (ordered.cmp core.block.cmp) succ last next pairs
+      → IsEnd (Decodes codings) (ordered.cmp core.block.cmp)
+      (filters.filter_for core.filter.policy) core.compressor (filters.name core.filter.policy)
+      last bytes size
+      → IsBuiltTable codings (ordered.accepts core.block.cmp) (ordered.cmp core.block.cmp)
+      (ordered.shortest_sep core.block.cmp) succ (filters.matches core.filter.policy)
+      (filters.filter_for core.filter.policy) core.compressor (filters.name core.filter.policy)
+      core.block.interval core.index.interval (written ++ bytes) pairs
+  rest_after last next written bytes pairs size same intervals laid is_last end =
+      (table_made codings order (ordered.shortest_sep core.block.cmp) separates
+      filters.filter_for filters.matches keeps filters.name core.filter.policy
+      (ordered.cmp core.block.cmp) succ core.compressor last next written bytes pairs size
+      core.block.interval core.index.interval refl same intervals laid is_last
+      (subst (λ p. IsEnd (Decodes codings) (ordered.cmp core.block.cmp) (filters.filter_for p)
+      core.compressor (filters.name p) last bytes size) (sym same) end)).0
+
+  -- the rest makes the table, if a block is open where a pair was added
+  pub rest_makes : ((stage core).open_pairs ≡ [] → (stage core).lines ≡ [])
+      → (written bytes : List ℕ) (pairs : List Pair)
+      → IsBegun codings ordered filters core written pairs
+      → IsRest ordered filters codings core bytes
+      → IsBuiltTable codings (ordered.accepts core.block.cmp) (ordered.cmp core.block.cmp)
+      (ordered.shortest_sep core.block.cmp) succ (filters.matches core.filter.policy)
+      (filters.filter_for core.filter.policy) core.compressor (filters.name core.filter.policy)
+      core.block.interval core.index.interval (written ++ bytes) pairs
+  rest_makes unlined written bytes pairs begun rest = ⊎_elim
+      (λ none.
+      let is : bytes ≡ rest.ended = rest.joined ∙ ap (λ b. b ++ rest.ended) none.2 in
+      let none_lined = unlined none.0 in
+      subst (λ b. Table (written ++ b)) (sym is)
+      (rest_after (stage core) (first_key (stage core).open_pairs) written rest.ended pairs
+      rest.size refl (refl, refl) begun
+      (record {
+        none_open = none.0;
+        accepted = λ some. absurd (some none_lined);
+        after = λ some. absurd (some none_lined);
+        successor = λ some. absurd (some none_lined);
+      })
+      (subst (λ l. End l) none.1 rest.ends)))
+      (λ some.
+      let same : rest.last.filter.policy ≡ core.filter.policy =
+      ap (λ (f : FiltersBuilt FP). f.policy) some.1.started
+      ∙ policy_with (filters.filter_for core.filter.policy) _ core.filter in
+      let open_pairs = (stage core).open_pairs in
+      let opened = all_right (λ pair. ordered.accepts core.block.cmp pair.0 ≡ true)
+      (flat_map (λ (part : Part). part.pairs) begun.parts) open_pairs
+      (subst (AllByRecursion (λ pair. ordered.accepts core.block.cmp pair.0 ≡ true))
+      begun.pairs_are begun.accepted) in
+      let is = succeeds_last order succ succeeds [] open_pairs some.0 opened in
+      let last = last_open pairs _ open_pairs begun.pairs_are some.0 in
+      let laid = laid_closed (Decodes codings) (ordered.accepts core.block.cmp)
+      (ordered.cmp core.block.cmp) (ordered.shortest_sep core.block.cmp) filters.filter_for
+      filters.matches keeps (stage core) rest.last core.compressor (succ (last_of core))
+      rest.closed written pairs some.0 same some.1 begun in
+      subst Table (append_assoc written rest.closed rest.ended
+      ∙ ap (λ b. written ++ b) (sym rest.joined))
+      (rest_after rest.last (succ (last_of core)) (written ++ rest.closed) rest.ended pairs
+      rest.size same some.1.same_intervals laid
+      (record {
+        none_open = some.1.none_open;
+        accepted = λ lines. is.0;
+        after = λ lines. subst (λ k. ordered.cmp core.block.cmp k (succ (last_of core)) ≢ Greater)
+            (sym last) is.1;
+        successor = λ lines. ap succ (sym last);
+      }) rest.ends))
+      rest.closes
+    where
+      Table : List ℕ → Type 0
+      Table whole = IsBuiltTable codings (ordered.accepts core.block.cmp)
+          (ordered.cmp core.block.cmp) (ordered.shortest_sep core.block.cmp) succ
+          (filters.matches core.filter.policy) (filters.filter_for core.filter.policy)
+          core.compressor (filters.name core.filter.policy) core.block.interval
+          core.index.interval whole pairs
+
+      End : Stage FP → Type 0
+      End last = IsEnd (Decodes codings) (ordered.cmp core.block.cmp)
+          (filters.filter_for core.filter.policy) core.compressor
+          (filters.name core.filter.policy) last rest.ended rest.size
+
+-- a sound builder has lines only with an open block
+pub sound_unlined : {FP : Type 0} {accepts : List ℕ → Bool}
+    {cmp index_cmp : List ℕ → List ℕ → Ordering} (stage : Stage FP)
+    → IsSound accepts cmp index_cmp stage → stage.open_pairs ≡ [] → stage.lines ≡ []
+sound_unlined stage sound none = by_count stage.count refl
+  where
+    by_count : (n : ℕ) → stage.count ≡ n → stage.lines ≡ []
+    by_count zero is =
+        sym (append-nil stage.lines) ∙ ap (λ z. stage.lines ++ z) (sym none) ∙ sound.none is
+    by_count (suc n) is = absurd (sound.some (omega (arith, is)) none)

@@ -1,5 +1,5 @@
 -- Blocks put into a table's file.
-use Rattle.std.specs.Prelude.{◌≡◌, ◌⊎◌, ℕ, ◌+◌, ◌^◌, ◌≤◌, List, [], length, Result, Ok, Err, None, IsSomeAnd}
+use Rattle.std.specs.Prelude.{◌≡◌, ◌⊎◌, ℕ, ◌+◌, ◌^◌, ◌<◌, ◌≤◌, List, [], length, Result, Ok, Err, None, IsSomeAnd}
 use Rattle.leveldb_base.specs.BlockHandle.{Handle, HandleFits, handle_bytes}
 use Rattle.leveldb_base.specs.Error.{IsOutOfMemory}
 use Rattle.leveldb_base.specs.declared.error.Status.{Status}
@@ -36,10 +36,10 @@ module _ {S : Type 0} (puts : S → List ℕ → Result (Unit {0}) Status → S 
     pub ends : end ≡ offset + length stored + 5
 
   -- these bytes weren't put: the sink failed, or none was tried, out of memory or for a number of
-  -- bytes that is too large
+  -- bytes that is too large; it isn't where the sink failed
   abbrev pub IsPutError : List ℕ → ℕ → S → Status → S → Type 0
   IsPutError bytes count from status to =
-      puts from bytes (Err status) to
+      ((count < 2 ^ 64) × puts from bytes (Err status) to)
       ⊎ ((to ≡ from) × (IsOutOfMemory status ⊎ IsTooLong count status))
 
   -- A block of this text wasn't put at this offset: no compressor is set under the id; or the

@@ -1,10 +1,11 @@
 -- How the last of a table is put, why a table wasn't finished, and what an error leaves in the
 -- sink: a prefix of what would be there.
-use Rattle.std.specs.Prelude.{◌≡◌, ◌≢◌, ◌⊎◌, ℕ, ◌+◌, true, false, List, [], ◌∷◌, length, None, Result, Ok, IsErrAnd}
+use Rattle.std.specs.Prelude.{◌≡◌, ◌≢◌, ◌⊎◌, ℕ, ◌+◌, true, false, List, [], ◌∷◌, ◌++◌, length, None, Result, Ok, IsErrAnd}
 use Rattle.std.specs.declared.cmp.Ordering.{Ordering}
 use Rattle.leveldb_base.specs.Cmp.{bytewise}
 use Rattle.leveldb_base.specs.BlockHandle.{Handle, handle_bytes}
 use Rattle.leveldb_base.specs.Error.{IsOutOfMemory}
+use Rattle.leveldb_base.specs.Types.{Pair}
 use Rattle.leveldb_base.specs.declared.cmp.Cmp.{Ghosts as CmpGhosts}
 use Rattle.leveldb_base.specs.declared.error.Status.{Status}
 use Rattle.leveldb_env.specs.Compressor.{Codings, Decodes, IsUnset}
@@ -15,7 +16,7 @@ use Rattle.leveldb_table.specs.Footer.{footer_bytes}
 use Rattle.leveldb_table.specs.Table.{with_trailer, filter_key}
 use Rattle.leveldb_table.specs.PutBlock.{PutsBlock, IsPutError, IsNoMetaindex, StopsFrom, StopsAtFooter}
 use Rattle.leveldb_table.specs.TableBuilderStage.{Stage}
-use Rattle.leveldb_table.specs.TableBuilder.{TableBuilt, stage, last_of, order_of, policy_of, IsBegun, IsBroken, IsBuiltTable, FinishesTable, PutsEnd}
+use Rattle.leveldb_table.specs.TableBuilder.{TableBuilt, stage, last_of, order_of, policy_of, IsBegun, IsBroken, IsBuiltTable, IsEnd, FinishesTable, PutsEnd}
 use Rattle.leveldb_table.specs.TableBuilderAdd.{ClosesOpen, IsNotClosed}
 
 -- The filters of a stage whose blocks are all closed weren't made, or they weren't put after the
@@ -70,6 +71,33 @@ module _ {FP : Type 0} (codings : Codings) (cmp : List ℕ → List ℕ → Orde
   abbrev pub StopsFromFilters : S → Status → S → Type 0
   StopsFromFilters from status to =
       StopsAtFilters too_large make last puts StopsFromMetaindex from status to
+
+module _ {C FP : Type 0} (order : CmpGhosts C) (policy : PolicyGhosts FP) (codings : Codings)
+    (core : TableBuilt C FP) where
+  -- The rest of a table: the open block as it is closed, where there is one, and after it the
+  -- filters, the metaindex, the index and the footer.
+  pub record IsRest (bytes : List ℕ) : Type 0 where
+    pub last : Stage FP
+    pub closed : List ℕ
+    pub closes : (((stage core).open_pairs ≡ []) × (last ≡ stage core) × (closed ≡ []))
+        ⊎ (((stage core).open_pairs ≢ []) × ClosesOpen order policy codings core
+        (order.short_succ core.block.cmp (last_of core)) closed last)
+    pub ended : List ℕ
+    pub size : ℕ
+    pub ends : IsEnd (Decodes codings) (order.cmp core.block.cmp)
+        (policy.filter_for core.filter.policy) core.compressor (policy.name core.filter.policy)
+        last ended size
+    pub joined : bytes ≡ closed ++ ended
+
+  -- after what was put before, the rest makes the table of the pairs that were added
+  abbrev pub RestMakesTable : Type 0
+  RestMakesTable = core.broken ≡ false → (written bytes : List ℕ) (pairs : List Pair)
+      → IsBegun codings order policy core written pairs → IsRest bytes
+      → IsBuiltTable codings (order.accepts (order_of core)) (order.cmp (order_of core))
+      (order.shortest_sep (order_of core)) (order.short_succ (order_of core))
+      (policy.matches (policy_of core)) (policy.filter_for (policy_of core)) core.compressor
+      (policy.name (policy_of core)) core.block.interval core.index.interval (written ++ bytes)
+      pairs
 
 module _ {C FP : Type 0} (order : CmpGhosts C) (policy : PolicyGhosts FP) (codings : Codings)
     (core : TableBuilt C FP)

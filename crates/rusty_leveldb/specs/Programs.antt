@@ -5,5 +5,5 @@ pub mod RunCalls
 pub mod RunAlone
 pub mod Lives
 pub mod Language
-pub mod Spelling
+pub mod Readings
 pub mod Program

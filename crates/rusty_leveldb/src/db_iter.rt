@@ -57,7 +57,7 @@ impl<
     K: ReadsTables<E, C, FP>,
     V: Walk<E, ReadTables<'a, E, C, FP, K>> + CountsBytes,
 > StoreIterator<'a, E, C, FP, K, V> {
-    ghost use Rattle.rusty_leveldb.specs.Walks.Iterator.{MovesIterator, moved, no_cause, pair_in};
+    ghost use Rattle.rusty_leveldb.specs.Walks.Iterator.{MovesIterator, no_cause, ok_move, pair_in};
 
     /// Moves to the next pair, from no position to the first, and from the last to no position.
     /// Returns whether it is at a pair.
@@ -146,7 +146,7 @@ impl<
     /// Moves to no position.
     pub fn reset(&mut self)
         ensures moves { MovesIterator ⟦<InternalKeyCmp<C> as Cmp>⟧ E.Env C.Cmp FP.FilterPolicy
-            K.codings V.Walk no_cause (λ _ _ _. None) self.old moved self.new }
+            K.codings V.Walk no_cause (λ _ _ _. None) self.old ok_move self.new }
         ensures none { pair_in V.Walk self.new ≡ None }
     {
         self.view.reset();

@@ -20,6 +20,7 @@ pub use leveldb_env::options::Options;
 pub use leveldb_env::{
     compressor, disk_env, env, filter, filter_block, infolog, laws as env_laws, mem_env, options,
 };
+pub use leveldb_files::laws as files_laws;
 pub use leveldb_iter::moves::{Move, Step};
 pub use leveldb_iter::snapshot::Snapshot;
 pub use leveldb_iter::{

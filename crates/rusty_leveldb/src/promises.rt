@@ -6,7 +6,7 @@ ghost use Rattle.rusty_leveldb.specs.Walks.IteratorLaws.{PrevUndoesNext};
 ghost use Rattle.rusty_leveldb.specs.Machines.Laws.{OneReading, NothingStands, CrashBetween, CrashInside, CrashSince, RefusalHasCause, StepFits, CrashFits, CrashInsideFits, LivesFit, DurableStays, SyncedStays, EachAnswerParts, HistoryIsAsked, HistoryIsPlaced, MoreIsAsked, LongItemMakesLongBatch, SyncedIsRead, ViewsStay, HeldStays, SnapshotIsRead, ForwardWalkGivesView, PrevUndoesAdvance, SyncedCanBeFound};
 ghost use Rattle.leveldb_store.specs.Tables.BuildTable.{choices_of};
 ghost use Rattle.rusty_leveldb.specs.Openings.ReadAloneLaws.{ReadingKeepsStates, ReadsWhatOpens};
-ghost use Rattle.rusty_leveldb.specs.Repairs.RepairLaws.{AnotherRepairFindsTheSame, CrashSinceRepair, OpensWhatRepairFound, RepairFindsWhatOpens};
+ghost use Rattle.rusty_leveldb.specs.Repairs.RepairLaws.{AnotherRepairFindsTheSame, CrashSinceRepair, CrashesOfRepairsLoseNothing, OpensWhatRepairFound, RepairFindsWhatOpens, RepairsLoseNothing};
 
 use leveldb_base::cmp::{Cmp, InternalKeyCmp, UserCmp};
 use leveldb_env::compressor::{CompressorList, Compressors};
@@ -34,9 +34,7 @@ pub fn what_is_read_alone_is_what_an_opening_finds<
         ⟦<InternalKeyCmp<C> as Cmp>⟧ ⟦<InternalFilterPolicy<FP> as FilterPolicy>⟧
         ⟦<CompressorList as Compressors>⟧.codings) options.now }
     ensures keeps { ReadingKeepsStates E.Env }
-{
-    let _ = options;
-}
+{}
 
 /// Wherever an honest crash comes since a repair began, what is left represents a state that a
 /// crash leaves of the one that the disk represented, or of the set of entries that was found; if
@@ -49,9 +47,7 @@ pub fn crashes_of_repairs_leave_the_old_or_the_found<
     ensures { CrashSinceRepair E.Env (choices_of C.Cmp FP.FilterPolicy
         ⟦<InternalKeyCmp<C> as Cmp>⟧ ⟦<InternalFilterPolicy<FP> as FilterPolicy>⟧
         ⟦<CompressorList as Compressors>⟧.codings options.now) }
-{
-    let _ = options;
-}
+{}
 
 /// An opening after a repair that was Ok finds the set of entries that was found of the files: it
 /// is the whole history, and the last number is its greatest. And of a store with no table and no
@@ -65,9 +61,7 @@ pub fn what_a_repair_finds_is_opened<E: Env, C: UserCmp + Copy, FP: FilterPolicy
     ensures whole { RepairFindsWhatOpens E.Env (choices_of C.Cmp FP.FilterPolicy
         ⟦<InternalKeyCmp<C> as Cmp>⟧ ⟦<InternalFilterPolicy<FP> as FilterPolicy>⟧
         ⟦<CompressorList as Compressors>⟧.codings) options.now }
-{
-    let _ = options;
-}
+{}
 
 /// Another repair with these options, of what one that was Ok left, finds what that one found:
 /// after it the disk represents what it did, so that no map changes.
@@ -75,6 +69,20 @@ pub fn another_repair_finds_the_same<E: Env, C: UserCmp + Copy, FP: FilterPolicy
     options: &Options<C, FP>,
 )
     ensures { AnotherRepairFindsTheSame E.Env (choices_of C.Cmp FP.FilterPolicy
+        ⟦<InternalKeyCmp<C> as Cmp>⟧ ⟦<InternalFilterPolicy<FP> as FilterPolicy>⟧
+        ⟦<CompressorList as Compressors>⟧.codings options.now) }
+{}
+
+/// So does another repair after one with these options that failed, and after a crash that came
+/// since one began: the same entries are found as before it, if no table is readable of which only
+/// a part is there, and the crash made up none.
+pub fn repairs_lose_nothing<E: Env, C: UserCmp + Copy, FP: FilterPolicy + Copy>(
+    options: &Options<C, FP>,
+)
+    ensures after { RepairsLoseNothing E.Env (choices_of C.Cmp FP.FilterPolicy
+        ⟦<InternalKeyCmp<C> as Cmp>⟧ ⟦<InternalFilterPolicy<FP> as FilterPolicy>⟧
+        ⟦<CompressorList as Compressors>⟧.codings options.now) }
+    ensures crash { CrashesOfRepairsLoseNothing E.Env (choices_of C.Cmp FP.FilterPolicy
         ⟦<InternalKeyCmp<C> as Cmp>⟧ ⟦<InternalFilterPolicy<FP> as FilterPolicy>⟧
         ⟦<CompressorList as Compressors>⟧.codings options.now) }
 {

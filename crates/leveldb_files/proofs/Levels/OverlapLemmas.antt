@@ -15,7 +15,7 @@ use Rattle.std.specs.declared.cmp.Ordering.TheVariants.{Less}
 use Rattle.leveldb_base.proofs.HistoryLemmas.{in_cases, in_front, in_none, in_rest}
 use Rattle.leveldb_base.proofs.OrderLemmas.{is_false, le_le, lt_itself, lt_le, lt_turn, not_less, not_lt}
 use Rattle.leveldb_base.specs.KeyTypes.{user_part}
-use Rattle.leveldb_files.specs.Levels.Overlap.{AreInputs, Covers, HasWholeFiles, IsWidened, UserRange, is_above, is_below, overlapping, overlaps, sticks_out, with_file}
+use Rattle.leveldb_files.specs.Levels.Overlap.{AreInputs, Covers, HasWholeFiles, IsWidened, UserRange, is_above, is_below, overlapping, overlaps, sticks_out, widened_by}
 use Rattle.leveldb_files.specs.Levels.Summary.{files_of_level}
 use Rattle.leveldb_files.specs.Edits.Edit.{NewFile}
 
@@ -253,8 +253,8 @@ module _ {cmp : List ℕ → List ℕ → Ordering} (total : IsTotalOrder cmp) w
     end = begins_trans turned a.end b.end c.end p.end q.end;
   }
 
-  with_file_covers : (range : UserRange) (file : NewFile) → Covers cmp (with_file cmp range file) range
-  with_file_covers range file = record {
+  widened_covers : (range : UserRange) (file : NewFile) → Covers cmp (widened_by cmp range file) range
+  widened_covers range file = record {
     begin = moved_begins total range.begin (user_part file.smallest);
     end = moved_begins turned range.end (user_part file.largest);
   }
@@ -277,10 +277,10 @@ module _ {cmp : List ℕ → List ℕ → Ordering} (total : IsTotalOrder cmp) w
       (below_both total other.begin range.begin covers.begin (user_part file.smallest))
       (below_both turned other.end range.end covers.end (user_part file.largest)) e
 
-  sticks_out_no_more : (range : UserRange) (file : NewFile) → sticks_out cmp (with_file cmp range file) file ≡ false
+  sticks_out_no_more : (range : UserRange) (file : NewFile) → sticks_out cmp (widened_by cmp range file) file ≡ false
   sticks_out_no_more range file =
-      or_false (is_below cmp (with_file cmp range file) (user_part file.smallest))
-      (is_above cmp (with_file cmp range file) (user_part file.largest))
+      or_false (is_below cmp (widened_by cmp range file) (user_part file.smallest))
+      (is_above cmp (widened_by cmp range file) (user_part file.largest))
       (moved_past total range.begin (user_part file.smallest))
       (moved_past turned range.end (user_part file.largest))
 
@@ -291,9 +291,9 @@ module _ {cmp : List ℕ → List ℕ → Ordering} (total : IsTotalOrder cmp) w
 
   module _ (files : List NewFile) (narrow range : UserRange) (so_far : IsWidening cmp files narrow range) where
     pub widening_goes_on : (file : NewFile) → find (is_partly_in cmp range) files ≡ Some file
-        → IsWidening cmp files narrow (with_file cmp range file)
+        → IsWidening cmp files narrow (widened_by cmp range file)
     widening_goes_on file found = record {
-      covers = covers_trans (with_file cmp range file) range narrow (with_file_covers range file) so_far.covers;
+      covers = covers_trans (widened_by cmp range file) range narrow (widened_covers range file) so_far.covers;
       least = λ other covers whole.
           let there = found_there (is_partly_in cmp range) files file found in
           let parts = and_parts (overlaps cmp range file) (sticks_out cmp range file) there.1 in
@@ -321,11 +321,11 @@ module _ {cmp : List ℕ → List ℕ → Ordering} (total : IsTotalOrder cmp) w
   -- fewer files stick out of the wider range
   pub fewer_stick_out : (files : List NewFile) (range : UserRange) (file : NewFile)
       → find (is_partly_in cmp range) files ≡ Some file
-      → count_by (sticks_out cmp (with_file cmp range file)) files < count_by (sticks_out cmp range) files
+      → count_by (sticks_out cmp (widened_by cmp range file)) files < count_by (sticks_out cmp range) files
   fewer_stick_out files range file found =
       let there = found_there (is_partly_in cmp range) files file found in
-      fewer (sticks_out cmp (with_file cmp range file)) (sticks_out cmp range)
-      (sticks_out_less range (with_file cmp range file) (with_file_covers range file)) files file there.0
+      fewer (sticks_out cmp (widened_by cmp range file)) (sticks_out cmp range)
+      (sticks_out_less range (widened_by cmp range file) (widened_covers range file)) files file there.0
       (sticks_out_no_more range file) (and_parts (overlaps cmp range file) (sticks_out cmp range file) there.1).1
 
 -- ---- the files that a compaction takes

@@ -58,8 +58,8 @@ module _ (cmp : List ℕ → List ℕ → Ordering) where
       is_below range (user_part file.smallest) || is_above range (user_part file.largest)
 
   -- the range, widened to that of the file
-  abbrev pub with_file : UserRange → NewFile → UserRange
-  with_file range file =
+  abbrev pub widened_by : UserRange → NewFile → UserRange
+  widened_by range file =
       let first = user_part file.smallest in
       let last = user_part file.largest in
       record {

@@ -6,7 +6,7 @@ ghost use Rattle.std.specs.Prelude.{take, drop, slice_index, slice_index_or, vec
 ghost use Rattle.std.specs.Prelude.{OnOk, OnErr, IfErr};
 ghost use Rattle.std.specs.List.{insert};
 ghost use Rattle.leveldb_mem.specs.Placed.{head, head_words, rank, place_of, IsAt, IsPathTo};
-ghost use Rattle.leveldb_mem.specs.Placed.{bytes_of, MakesRoomForPairs};
+ghost use Rattle.leveldb_mem.specs.Placed.{pairs_length, MakesRoomForPairs};
 ghost use Rattle.leveldb_mem.specs.Searching.{key_at, count_while, IsParted};
 
 use crate::skipmap::search::Probe;
@@ -286,7 +286,7 @@ impl PlacedPairs {
 
     /// How much memory counts for the pairs: for each 64, and the lengths of its key and value.
     pub(crate) fn memory(&self) -> usize
-        ensures value { result ≡ 64 * length self.now.pairs + bytes_of self.now.pairs }
+        ensures value { result ≡ 64 * length self.now.pairs + pairs_length self.now.pairs }
         ensures bound { result + 128 < 2 ^ 64 }
     {
         64 * self.count + self.end

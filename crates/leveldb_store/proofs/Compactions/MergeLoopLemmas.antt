@@ -1,6 +1,8 @@
 -- The loop of a merge: where its walk is, which pairs are merged, and what moves and new tables leave.
 use Rattle.std.proofs.Common.{◌≡◌, ◌≤◌, ◌+◌, ◌∙◌, inl, inr, ℕ, List, [], ◌∷◌, ◌++◌, drop, take, Option, None, Some, Result, Ok, Err, refl, sym, ap, subst, arith, length, length-append}
+use Rattle.std.specs.Prelude.{Contains, IsTrue}
 use Rattle.std.proofs.lemmas.List.{take-append-drop}
+use Rattle.std.proofs.lemmas.List.Elements.{Contains-append_left}
 use Rattle.leveldb_base.specs.Cmp.{IsExactOrder}
 use Rattle.leveldb_base.specs.Error.{IsOutOfMemory}
 use Rattle.leveldb_base.specs.KeyTypes.{internal_cmp}
@@ -9,7 +11,7 @@ use Rattle.leveldb_base.specs.Types.{IsPosition, Pair, next_position, pair_at, p
 use Rattle.leveldb_base.specs.declared.cmp.Cmp.{Ghosts as CmpGhosts}
 use Rattle.leveldb_base.specs.declared.types.FileMetaData.{FileMetaData}
 use Rattle.leveldb_env.proofs.EnvLemmas.{Run-mono}
-use Rattle.leveldb_env.specs.Env.{Files}
+use Rattle.leveldb_env.specs.Env.{Files, Run}
 use Rattle.leveldb_env.specs.declared.env.Env.{Ghosts as EnvGhosts}
 use Rattle.leveldb_env.specs.declared.filter.FilterPolicy.{Ghosts as FilterGhosts}
 use Rattle.leveldb_iter.specs.Walk.{key_order}
@@ -22,6 +24,7 @@ use Rattle.leveldb_store.specs.Tables.BuildTable.{TableChoices, passed}
 use Rattle.leveldb_store.specs.Compactions.Merging.{BearsNewTables, IsReachedFrom, HasMerged, LeavesFiles, Merge, MergesTables, MovesLeaveFiles, TakesPair, by_move, by_writing, itself}
 use Rattle.leveldb_store.specs.Openings.Opening.{GivesNumbers, TakesBackNew}
 use Rattle.leveldb_store.specs.Tables.Outputs.{AreFinished, ChangesNewTables, FinishesOpen, HaveOutputs, IsOpenAfter, OutputsValue}
+use Rattle.leveldb_store.specs.Tables.TableParts.{HaveTableParts, WritesParts}
 use Rattle.leveldb_store.specs.Writing.Switch.{MayGiveNumber}
 use Rattle.leveldb_store.specs.declared.passing.Passing.{Passing}
 use Rattle.leveldb_store.specs.declared.table_file.TableFile.{TableFile}
@@ -29,6 +32,7 @@ use Rattle.leveldb_store.proofs.Tables.BuildTableLemmas.{pair_passed, passed_fir
 use Rattle.leveldb_store.proofs.Compactions.MergingLemmas.{merged_all, open_read}
 use Rattle.leveldb_store.proofs.Tables.NotBuiltLemmas.{some_not_built}
 use Rattle.leveldb_store.proofs.Tables.OutputsLemmas.{new-rise, new-trans}
+use Rattle.leveldb_store.proofs.Tables.PartsLemmas.{parts_so, parts_still, parts_then}
 use Rattle.leveldb_store.proofs.Logs.ReplayFilesLemmas.{GivesNumbers-trans}
 use Rattle.leveldb_store.proofs.Tables.TableFileLemmas.{fails_later, own_fails}
 
@@ -192,6 +196,7 @@ module _ {C FP : Type 0} {order : CmpGhosts C} {filters : FilterGhosts FP}
     pub come : IsReachedFrom env walk merge.store first start at
     pub changes : ChangesNewTables env merge.store first next start.0 at.0
     pub read : List Pair
+    pub parts : WritesParts merge.choices env read start.0 at.0
     pub merged : HasMerged merge env first read next at.0 passing outputs
     -- no more numbers were given than pairs were read
     pub few : next ≤ first + length read
@@ -221,6 +226,21 @@ module _ {C FP : Type 0} {order : CmpGhosts C} {filters : FilterGhosts FP}
       let same = ap length front.1 in
       omega (arith, few, longer, same)
 
+  -- the new tables are parts of ones of the list's pairs
+  abbrev pub HasParts : ℕ → E → Type 0
+  HasParts next at = BearsNewTables env walk merge.store first start → (pairs : List Pair)
+      → walk.over start from (key_order order merge.choices.cmp) pairs → IsTrue env.models_disk
+      → Run (HaveTableParts merge.choices (Contains pairs) merge.store first next
+      (env.observed start.0).disk.files) (env.observed start.0) (env.observed at)
+
+  has_parts : {next : ℕ} {at : E} (read : List Pair)
+      → WritesParts merge.choices env read start.0 at → AreFirst read → HasParts next at
+  has_parts read parts begins bears pairs over modelled =
+      let front = begins bears pairs over in
+      Run-mono (λ files are n from_first below. are (table_path merge.store n))
+      (parts_so merge.choices env read pairs (λ pair there. subst (λ ps. Contains ps pair) (sym front.1)
+      (Contains-append_left read front.0 pair there)) parts modelled)
+
   -- at each list that the walk is over it is at this pair
   abbrev pub IsAtPair : E × T → W → Pair → Type 0
   IsAtPair at it pair = (pairs : List Pair) (position : Option ℕ)
@@ -247,6 +267,7 @@ module _ {C FP : Type 0} {order : CmpGhosts C} {filters : FilterGhosts FP}
       come = by_move start at itself kept;
       changes = still_new env merge.store first (leaves start at kept);
       read = [];
+      parts = parts_still merge.choices env [] (leaves start at kept);
       merged = merged;
       few = omega arith;
       walked = λ bears pairs over. record {
@@ -272,6 +293,12 @@ module _ {C FP : Type 0} {order : CmpGhosts C} {filters : FilterGhosts FP}
             sym (take-append-drop count pairs)
                 ∙ ap (λ ps. ps ++ drop count pairs) before,
           )
+
+      -- and so the new tables are parts after it was taken
+      parts_with : {to : E} → WritesParts merge.choices env (so_far.read ++ pair ∷ []) at.0 to
+          → WritesParts merge.choices env (so_far.read ++ pair ∷ []) start.0 to
+      parts_with = parts_then merge.choices env _ (parts_so merge.choices env _ _
+          (Contains-append_left so_far.read (pair ∷ [])) so_far.parts)
 
       -- one number more was given at most, and this pair was read
       few_with : {later : ℕ} → later ≤ next + 1
@@ -305,6 +332,8 @@ module _ {C FP : Type 0} {order : CmpGhosts C} {filters : FilterGhosts FP}
                 (new-then env merge.store up so_far.changes takes.changes)
                 (still_new env merge.store first still);
             read = so_far.read ++ pair ∷ [];
+            parts = parts_then merge.choices env _ (parts_with pair so_far takes.parts)
+                (parts_still merge.choices env (so_far.read ++ pair ∷ []) still);
             merged = merged_still merge env still takes.ok;
             few = few_with pair so_far one;
             walked = λ bears pairs over.
@@ -340,6 +369,10 @@ module _ {C FP : Type 0} {order : CmpGhosts C} {filters : FilterGhosts FP}
                 (still_new env merge.store first still);
             few = has_pair_for_each (so_far.read ++ pair ∷ []) (few_with pair so_far one)
                 (first_with pair so_far here);
+            parts = has_parts (so_far.read ++ pair ∷ []) (parts_then merge.choices env _
+                (parts_with pair so_far takes.parts)
+                (parts_still merge.choices env (so_far.read ++ pair ∷ []) still))
+                (first_with pair so_far here);
             comes = by_move (to, tables) end come kept;
             cause = inl (record {
               at = (to, tables);
@@ -363,6 +396,8 @@ module _ {C FP : Type 0} {order : CmpGhosts C} {filters : FilterGhosts FP}
         changes = new-then env merge.store up so_far.changes takes.changes;
         few = has_pair_for_each (so_far.read ++ pair ∷ []) (few_with pair so_far one)
             (first_with pair so_far here);
+        parts = has_parts (so_far.read ++ pair ∷ []) (parts_with pair so_far takes.parts)
+            (first_with pair so_far here);
         comes = by_writing at to tables later so_far.come takes.changes;
         cause = inr (
           env.failures at,
@@ -381,6 +416,8 @@ module _ {C FP : Type 0} {order : CmpGhosts C} {filters : FilterGhosts FP}
       ok = tt;
       changes = still_new env merge.store first (leaves start end kept);
       few = λ bears pairs over. omega arith;
+      parts = has_parts [] (parts_still merge.choices env [] (leaves start end kept))
+          (λ bears pairs over. (pairs, refl));
       comes = by_move start end itself kept;
       cause = inl (record {
         at = start;
@@ -406,6 +443,14 @@ module _ {C FP : Type 0} {order : CmpGhosts C} {filters : FilterGhosts FP}
                 ∙ ap (λ ps. ps ++ drop count pairs) past.before,
           )
 
+      -- the pairs of the open table were read
+      parts_after : (exact : IsExactOrder merge.choices.format.order)
+          → order.cmp merge.choices.cmp ≡ internal_cmp merge.choices.format.order → {to : E}
+          → WritesParts merge.choices env so_far.merged.pairs at to
+          → WritesParts merge.choices env so_far.read start.0 to
+      parts_after exact cmp_is parts = parts_then merge.choices env _ so_far.parts
+          (parts_so merge.choices env _ _ (open_read merge env exact cmp_is so_far.merged) parts)
+
       -- memory is out before it comes to its end
       pub merge_endless : {status : Status} → IsOutOfMemory status
           → MergesTables merge env first walk items start from (Err status) next (at, tables)
@@ -413,6 +458,7 @@ module _ {C FP : Type 0} {order : CmpGhosts C} {filters : FilterGhosts FP}
         ok = tt;
         changes = so_far.changes;
         few = has_pair_for_each so_far.read so_far.few first_read;
+        parts = has_parts so_far.read so_far.parts first_read;
         comes = so_far.come;
         cause = inr (
           env.failures at,
@@ -441,6 +487,7 @@ module _ {C FP : Type 0} {order : CmpGhosts C} {filters : FilterGhosts FP}
         );
         changes = new-trans env merge.store so_far.changes finishes.changes;
         few = has_pair_for_each so_far.read so_far.few first_read;
+        parts = has_parts so_far.read (parts_after exact cmp_is finishes.parts) first_read;
         comes = by_writing at to tables next so_far.come finishes.changes;
         cause = tt;
       }
@@ -448,6 +495,7 @@ module _ {C FP : Type 0} {order : CmpGhosts C} {filters : FilterGhosts FP}
         ok = tt;
         changes = new-trans env merge.store so_far.changes finishes.changes;
         few = has_pair_for_each so_far.read so_far.few first_read;
+        parts = has_parts so_far.read (parts_after exact cmp_is finishes.parts) first_read;
         comes = by_writing at to tables next so_far.come finishes.changes;
         cause = inr (
           env.failures at,

@@ -34,6 +34,7 @@ use Rattle.leveldb_store.specs.declared.passing.Passing.{Passing}
 use Rattle.leveldb_store.specs.declared.table_file.TableFile.{TableFile}
 use Rattle.leveldb_store.proofs.Tables.NotBuiltLemmas.{more_not_built}
 use Rattle.leveldb_store.proofs.Tables.OutputsLemmas.{new-none}
+use Rattle.leveldb_store.proofs.Tables.PartsLemmas.{parts_none, parts_so}
 use Rattle.leveldb_store.proofs.Tables.TableFileLemmas.{all_written, fails_later, own_fails}
 
 -- what holds after an Ok gives this
@@ -395,6 +396,7 @@ module _ {C FP : Type 0} {order : CmpGhosts C} {filters : FilterGhosts FP}
       misplaced (Err status) code why = record {
         ok = tt;
         changes = new-none env merge.store first from;
+        parts = parts_none merge.choices env (read ++ pair ∷ []) from;
         cause = own_fails refl (inr (inr (inr (code, why)), refl));
       }
 
@@ -479,11 +481,13 @@ module _ {C FP : Type 0} {order : CmpGhosts C} {filters : FilterGhosts FP}
                 ∙ sym pushed_left;
           };
           changes = new-none env merge.store first from;
+          parts = parts_none merge.choices env (read ++ pair ∷ []) from;
           cause = all_written refl;
         }
         taken_gone (Err status) same went just memory = record {
           ok = tt;
           changes = new-none env merge.store first from;
+          parts = parts_none merge.choices env (read ++ pair ∷ []) from;
           cause = own_fails refl (inl memory);
         }
 
@@ -504,6 +508,7 @@ module _ {C FP : Type 0} {order : CmpGhosts C} {filters : FilterGhosts FP}
         not_put same puts = record {
           ok = tt;
           changes = puts.changes;
+          parts = parts_so merge.choices env _ _ put_read puts.parts;
           cause = fails_later refl (⊎_elim (λ not. inl (more_not_built merge.choices put_read not))
               (⊎_elim (λ used_up. inr (inl used_up))
               (λ unfit. absurd (never_unfit (subst (λ o. IsUnfit order o pair.0) same unfit.1)))))
@@ -536,11 +541,13 @@ module _ {C FP : Type 0} {order : CmpGhosts C} {filters : FilterGhosts FP}
                     ∙ sym pushed_left;
               };
               changes = puts.changes;
+              parts = parts_so merge.choices env _ _ put_read puts.parts;
               cause = all_written puts.cause.ok;
             }
         taken_put (Err status) stayed puts just memory = record {
           ok = tt;
           changes = puts.changes;
+          parts = parts_so merge.choices env _ _ put_read puts.parts;
           cause = own_fails puts.cause.ok (inl memory);
         }
 

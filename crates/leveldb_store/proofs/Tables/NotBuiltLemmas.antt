@@ -59,7 +59,7 @@ module _ (codings : Codings) (status : Status) where
 
   put_fault : (bytes : List ℕ) (count : ℕ) (from to : List ℕ)
       → IsPutError puts_all bytes count from status to → Fault
-  put_fault bytes count from to (inl failed) =
+  put_fault bytes count from to (inl (fits, failed)) =
       let never : Err status ≡ Ok tt = failed.0 in absurd (cc never)
   put_fault bytes count from to (inr (_, inl memory)) = memory_fault memory
   put_fault bytes count from to (inr (_, inr long)) = unsupported_fault long.0

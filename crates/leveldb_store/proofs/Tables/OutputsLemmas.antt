@@ -1,5 +1,5 @@
 -- Tables that are written one after another.
-use Rattle.std.specs.Prelude.{Contains, IfErr, IsErrAnd, IsOk, IsTrue, OnOk, if◌then◌else◌, is_ok, is_some, ◌&&◌, not}
+use Rattle.std.specs.Prelude.{Contains, IfErr, IsErrAnd, IsOk, IsTrue, OnErr, OnOk, if◌then◌else◌, is_ok, is_some, ◌&&◌, not}
 use Rattle.std.proofs.Common.{◌≡◌, ◌≢◌, ◌⊎◌, ◌∙◌, inl, inr, ⊎_elim, ℕ, ◌+◌, ◌<◌, ◌≤◌, ◌^◌, Bool, false, true, List, [], ◌∷◌, ◌++◌, length, map, Option, None, Some, Result, Ok, Err, refl, sym, ap, subst, arith}
 use Rattle.std.proofs.lemmas.Bool.{le-leb}
 use Rattle.std.proofs.lemmas.List.{map-append}
@@ -26,12 +26,15 @@ use Rattle.leveldb_env.specs.declared.filter.FilterPolicy.{Ghosts as FilterGhost
 use Rattle.leveldb_table.specs.TableBuilder.{IsNewBuilder, KeepsChoices, TableBuilt, last_of}
 use Rattle.leveldb_files.specs.Stores.Paths.{table_path}
 use Rattle.leveldb_files.specs.Stores.Store.{IsFirstKey, IsLastKey}
-use Rattle.leveldb_store.specs.Tables.BuildTable.{IsNotBuilt, TableChoices, puts_all}
+use Rattle.leveldb_store.specs.Tables.BuildTable.{IsNotBuilt, IsTableBuilt, TableChoices, puts_all}
 use Rattle.leveldb_store.specs.Tables.Outputs.{AddsPair, AreCutBefore, AreFinished, AreNextNumbers, AreTables, ChangesNewTables, FinishesOpen, HaveOutputs, IsBeginFault, IsCutBefore, IsOpenAfter, IsOpenTable, IsUnfit, OutputsValue, PutsPair, is_due, is_due_in, numbers_of, pairs_after, tables_after, with_table}
-use Rattle.leveldb_store.specs.Tables.TableFile.{AddsToFile, ChangesOneFile, FailsToWrite, FinishesFile, IsAddFault, IsFinishFault, IsMetadataOf, IsThere, StopsWriting}
+use Rattle.leveldb_store.specs.Tables.TableFile.{AddsToFile, ChangesOneFile, FailsToWrite, FinishesFile, IsAddFault, IsFinishFault, GrowsBy, IsMetadataOf, IsThere, LeavesPart, MayPut, StopsWriting}
+use Rattle.leveldb_store.specs.Tables.TableParts.{WritesParts}
 use Rattle.leveldb_store.specs.declared.table_file.TableFile.{TableFile}
-use Rattle.leveldb_store.proofs.Tables.BuildTableLemmas.{HasTaken-none, IsTableUnder-same, last_key_of, last_pushed, taken_added, taken_begun}
+use Rattle.leveldb_store.proofs.Tables.BuildTableLemmas.{HasTaken-none, last_key_of, last_pushed, taken_added, taken_begun}
+use Rattle.leveldb_store.proofs.Tables.GrowsLemmas.{grows_finish, grows_longer}
 use Rattle.leveldb_store.proofs.Tables.NotBuiltLemmas.{not_built_end, not_built_next, some_not_built}
+use Rattle.leveldb_store.proofs.Tables.PartsLemmas.{IsWhole, built_by, file_parts, left_whole, parts_none, parts_so, parts_then, taken_whole}
 use Rattle.leveldb_store.proofs.Tables.TableFileLemmas.{all_written, changes-trans, changes_named, fails_later, fails_so, longer_changes, longer_file_is, opened_is, opening_changes, own_fails, sync_changes, synced_file_is}
 
 -- ---- numbers
@@ -215,13 +218,7 @@ module _ {E F : Type 0} (env : EnvGhosts E F) (store : List ℕ) where
     later = changes.later;
   }
 
--- ---- a table that is created
-
--- a key with a tag is accepted, as all users' keys are
-pub key_accepted : {accepts : List ℕ → Bool} → ((key : List ℕ) → accepts key ≡ true)
-    → (key : List ℕ) → 8 ≤ length key → internal_accepts accepts key ≡ true
-key_accepted {accepts} all key tagged =
-    ap (λ b. b && accepts (user_part key)) (le-leb 8 (length key) tagged) ∙ all (user_part key)
+-- ---- lists and options
 
 -- what a push makes of a list, if it succeeds
 pub pushed_is : {A T X : Type 0} {now more : List A} (same : List A) (result : Result T X)
@@ -233,51 +230,6 @@ pushed_is same (Err x) never is = absurd (cc never)
 pub none_of : {A : Type 0} (option : Option A) → false ≡ is_some option → option ≡ None
 none_of None e = refl
 none_of (Some x) e = absurd (cc e)
-
-module _ {E F : Type 0} (env : EnvGhosts E F) (store : List ℕ) {path : List ℕ} {from mid : E}
-    {X : Type 0} {x : X} {file : F}
-    (opening : ChangesFiles {T = X} env.models_disk (emptied path) (BeforeOrAfter (emptied path))
-    (env.observed from) (env.observed mid) (Ok x))
-    (locks : SameLocks env.models_disk (env.observed from) (env.observed mid))
-    (cause : HasCause {T = X} IsOutOfMemory (env.failures from) (env.failures mid) (Ok x))
-    (named : IsTrue env.models_disk → env.name_of file ≡ path) {number next later : ℕ}
-    (path_is : path ≡ table_path store number) (number_is : number ≡ next)
-    (fits : number < 2 ^ 64) (later_is : later ≡ next + 1) where
-  created : ChangesOneFile env path from mid
-  created = opening_changes env opening locks cause.later
-
-  created_there : IsThere env (opened mid file)
-  created_there modelled = (kept_file [], opened_is env opening named modelled)
-
-  new_table : {to : E} → ChangesOneFile env path from to
-      → ChangesNewTables env store next later from to
-  new_table {to} changes = new-one env store (omega (arith, number_is))
-      (omega (arith, number_is, later_is)) fits
-      (subst (λ p. ChangesOneFile env p from to) path_is changes)
-
-  -- its first pair is added
-  pub first_added : {bytes : List ℕ} {to : E} {after : F}
-      → IsLonger env (opened mid file) bytes (opened to after) → ChangesOneFile env path from to
-  first_added longer =
-      changes-trans env created (changes_named env named (longer_changes env longer))
-
-  pub first_changes : {bytes : List ℕ} {to : E} {after : F}
-      → IsLonger env (opened mid file) bytes (opened to after)
-      → ChangesNewTables env store next later from to
-  first_changes longer = new_table (first_added longer)
-
-  -- its first pair isn't added
-  pub none_changes : {Own : Status → Type 0} {status : Status} {to : E}
-      → (IsThere env (opened mid file) → StopsWriting env Own (opened mid file) status to)
-      → ChangesNewTables env store next later from to
-  none_changes stops = new_table
-      (changes-trans env created (changes_named env named (stops created_there).changes))
-
-  pub none_cause : {T : Type 0} {Own Other : Status → Type 0} {status : Status} {to : E}
-      → (Own status → Other status)
-      → (IsThere env (opened mid file) → StopsWriting env Own (opened mid file) status to)
-      → FailsToWrite {T = T} Other (env.failures from) (env.failures to) (Err status)
-  none_cause so stops = fails_later cause.ok so (stops created_there).cause
 
 -- ---- finished tables
 
@@ -358,6 +310,22 @@ module _ {C FP : Type 0} {order : CmpGhosts C} {filters : FilterGhosts FP}
         → AreFinished choices env store to outputs.done tables
     still_finished changes = finished_stay open_is.fits (changes_named env open_is.named changes)
         first outputs.done tables open_numbers.0 have.finished
+
+    -- what there is of the open one while it is written
+    open_parts : (more : List Pair) {to : E} (bytes : List ℕ)
+        → IsWhole choices (Contains more) (open_is.written ++ bytes)
+        → ChangesOneFile env (env.name_of table.file) at to
+        → GrowsBy env (opened at table.file) bytes to → WritesParts choices env more at to
+    open_parts more bytes whole changes grows = file_parts choices env more
+        {from = opened at table.file} (record { kept = []; since = open_is.written }) bytes
+        open_is.there whole changes grows
+
+    open_left : {to : E}
+        → LeavesPart env (MayPut order filters choices.format.codings table.core)
+        (opened at table.file) to
+        → ChangesOneFile env (env.name_of table.file) at to → WritesParts choices env pairs at to
+    open_left left changes = open_parts pairs left.bytes
+        (left_whole choices open_is.is_new open_is.taken left.bytes left.may) changes left.grows
 
     open_there : IsThere env (opened at table.file)
     open_there modelled =
@@ -482,9 +450,11 @@ module _ {C FP : Type 0} {order : CmpGhosts C} {filters : FilterGhosts FP}
       → IfErr result (λ status. IsThere env (opened from table.file) → StopsWriting env
       (IsAddFault order filters choices.format.codings table.core pair) (opened from table.file)
       status to)
+      → OnErr result (LeavesPart env (MayPut order filters choices.format.codings table.core)
+      (opened from table.file) to)
       → AddsPair choices env store first tables pairs pair next from result to new
   pair_added {first} {next} {from} {to} {old} {new} {table} {after} {tables} {pairs} pair have is now
-      done kept same_number same_smallest (Ok x) adds none =
+      done kept same_number same_smallest (Ok x) adds none part =
       let changes = longer_changes env adds.longer in
       let more : IsOpenTable choices env store to after (pairs ++ pair ∷ [])
       = table_added pair (open_is have is) adds kept same_number same_smallest in
@@ -505,15 +475,20 @@ module _ {C FP : Type 0} {order : CmpGhosts C} {filters : FilterGhosts FP}
               (cut_longer pairs (pair ∷ []) (open_is have is).first) tables have.cut;
         };
         changes = open_changes have is changes;
+        parts = open_parts have is (pairs ++ pair ∷ []) adds.bytes (taken_whole choices
+            (open_is have is).is_new (taken_added choices.format.codings env
+            (open_is have is).taken adds kept)) changes (grows_longer env adds.longer);
         cause = all_written adds.longer.counted;
       }
-  pair_added {table = table} pair have is now done kept same_number same_smallest (Err status) none
-      stops =
+  pair_added {table = table} {pairs = pairs} pair have is now done kept same_number same_smallest
+      (Err status) none stops left =
       let stopped = stops (open_there have is) in
       let opened = open_is have is in
       record {
         ok = tt;
         changes = open_changes have is stopped.changes;
+        parts = parts_so choices env pairs _ (Contains-append_left pairs (pair ∷ []))
+            (open_left have is left stopped.changes);
         cause = fails_later refl (not_built_next choices opened.is_new opened.taken pair)
             stopped.cause;
       }
@@ -525,6 +500,17 @@ module _ {C FP : Type 0} {order : CmpGhosts C} {filters : FilterGhosts FP}
   more_tables tables [] first = absurd (cc (sym first.2))
   more_tables tables (pair ∷ pairs) first = refl
 
+  finished_built : {from to : E} {table : TableFile E C FP F} {pairs : List Pair} {size : ℕ}
+      (is : IsOpenTable choices env store from table pairs)
+      (finishes : FinishesFile order filters choices.format.codings env table.core
+      (opened from table.file) size to)
+      → IsTableBuilt choices pairs (is.written ++ finishes.bytes)
+      × (size ≡ length (is.written ++ finishes.bytes))
+  finished_built {pairs = pairs} is finishes =
+      let built = finishes.made is.written pairs (taken_begun choices.format.codings
+      (is.is_new.begun choices.format.codings) is.taken) in
+      (built_by choices is.is_new is.taken built.0, built.1)
+
   table_finished : {from to : E} {table : TableFile E C FP F} {pairs : List Pair}
       (made : FileMetaData) → IsOpenTable choices env store from table pairs
       → FinishesFile order filters choices.format.codings env table.core (opened from table.file)
@@ -532,17 +518,10 @@ module _ {C FP : Type 0} {order : CmpGhosts C} {filters : FilterGhosts FP}
       → IsMetadataOf table.number table.smallest (last_of table.core) made
       → AreFinished choices env store to (made ∷ []) (pairs ∷ [])
   table_finished {from} {to} {table} {pairs} made is finishes known =
-      let is_new = is.is_new in
-      let kept = is.taken.choices in
-      let built = finishes.made is.written pairs (taken_begun choices.format.codings
-      (is_new.begun choices.format.codings) is.taken) in (
+      let built = finished_built is finishes in (
         record {
           bytes = is.written ++ finishes.bytes;
-          built = IsTableUnder-same order filters choices.format.codings
-              (kept.same_order ∙ is_new.order) (kept.same_policy ∙ is_new.policy)
-              (kept.same_compressor ∙ is_new.compressor)
-              (kept.same_intervals.0 ∙ is_new.interval.0)
-              (kept.same_intervals.1 ∙ is_new.interval.1) built.0;
+          built = built.0;
           kept = λ modelled.
               let was = longer_file_is env (record { kept = []; since = is.written })
               finishes.longer modelled (is.there modelled) in
@@ -603,6 +582,11 @@ module _ {C FP : Type 0} {order : CmpGhosts C} {filters : FilterGhosts FP}
               (sym files_are) (subst (AreTables choices env store first next to
               (old.done ++ made ∷ [])) (sym (more_tables tables pairs opened.first)) all);
           changes = open_changes have is changes;
+          parts = open_parts have is pairs finishes.bytes (inr (record {
+            pairs = pairs;
+            each = λ pair there. there;
+            built = (finished_built opened finishes).0;
+          })) changes (grows_finish env finishes);
           cause = all_written (finishes.synced.cause.ok ∙ finishes.longer.counted);
         }
 
@@ -611,13 +595,16 @@ module _ {C FP : Type 0} {order : CmpGhosts C} {filters : FilterGhosts FP}
         → (IsThere env (opened from table.file) → StopsWriting env
         (IsFinishFault order filters choices.format.codings table.core) (opened from table.file)
         status to)
+        → LeavesPart env (MayPut order filters choices.format.codings table.core)
+        (opened from table.file) to
         → FinishesOpen choices env store first tables pairs {T = T} next from (Err status) files to
-    open_unfinished files status stops =
+    open_unfinished files status stops left =
         let stopped = stops (open_there have is) in
         let opened = open_is have is in
         record {
           ok = tt;
           changes = open_changes have is stopped.changes;
+          parts = open_left have is left stopped.changes;
           cause = fails_later refl (not_built_end choices opened.is_new opened.taken)
               stopped.cause;
         }
@@ -631,6 +618,7 @@ module _ {C FP : Type 0} {order : CmpGhosts C} {filters : FilterGhosts FP}
   unfinished_so others finishes = record {
     ok = tt;
     changes = finishes.changes;
+    parts = finishes.parts;
     cause = fails_later refl (λ own. own) finishes.cause;
   }
 
@@ -643,6 +631,7 @@ module _ {C FP : Type 0} {order : CmpGhosts C} {filters : FilterGhosts FP}
     ok = subst (λ fs. AreTables choices env store first next to fs (with_table tables pairs))
         (sym same) finishes.ok;
     changes = finishes.changes;
+    parts = finishes.parts;
     cause = all_written finishes.cause.ok;
   }
 
@@ -666,6 +655,7 @@ module _ {C FP : Type 0} {order : CmpGhosts C} {filters : FilterGhosts FP}
             (sym files_are) (subst (λ ps. AreTables choices env store first next at old.done
             (with_table tables ps)) (sym empty.1) all);
         changes = new-none env store first at;
+        parts = parts_none choices env pairs at;
         cause = all_written refl;
       }
 
@@ -683,6 +673,7 @@ module _ {C FP : Type 0} {order : CmpGhosts C} {filters : FilterGhosts FP}
     unfit_not_put (Err status) code unfit = record {
       ok = tt;
       changes = new-none env store first from;
+      parts = parts_none choices env (pairs ++ pair ∷ []) from;
       cause = own_fails refl (inr (inr (inr (code, unfit)), refl));
     }
 
@@ -695,6 +686,7 @@ module _ {C FP : Type 0} {order : CmpGhosts C} {filters : FilterGhosts FP}
       ok = subst (λ b. OnOk result (HaveOutputs choices env store first next to new
           (tables_after b tables pairs) (pairs_after b pairs pair))) (sym due) adds.ok;
       changes = adds.changes;
+      parts = adds.parts;
       cause = fails_so result refl
           (λ status not. inl (some_not_built choices (λ other there. there) not)) adds.cause;
     }
@@ -707,6 +699,7 @@ module _ {C FP : Type 0} {order : CmpGhosts C} {filters : FilterGhosts FP}
     unfinished_not_put {status = status} finishes = record {
       ok = tt;
       changes = finishes.changes;
+      parts = parts_so choices env pairs _ (Contains-append_left pairs (pair ∷ [])) finishes.parts;
       cause = fails_later refl (λ not. inl (some_not_built choices
           (Contains-append_left pairs (pair ∷ [])) not)) finishes.cause;
     }
@@ -745,16 +738,21 @@ module _ {C FP : Type 0} {order : CmpGhosts C} {filters : FilterGhosts FP}
         → AreCutBefore (pair ∷ []) ready
         → OnOk result (HaveOutputs choices env store first later to new ready (pair ∷ [])))
         → next ≤ later → ChangesNewTables env store next later mid to
+        → WritesParts choices env (pair ∷ []) mid to
         → FailsToWrite (IsBeginFault choices pair later) (env.failures mid) (env.failures to) result
         → PutsPair choices env store first tables pairs limit pair from old result later to new
-    begun_is_put {mid} {to} {new} {later} done result why finishes begins up changes cause = record {
-      ok = by why;
-      changes = new-trans env store (new-rise env store up finishes.changes)
-          (new-wider env store (next_range first next _ have.numbers) changes);
-      cause = fails_so result finishes.cause.ok
-          (λ status. ⊎_elim (λ not. inl (some_not_built choices
-          (Contains-append_right pairs (pair ∷ [])) not)) (λ used_up. inr (inl used_up))) cause;
-    }
+    begun_is_put {mid} {to} {new} {later} done result why finishes begins up changes parts cause =
+        record {
+          ok = by why;
+          changes = new-trans env store (new-rise env store up finishes.changes)
+              (new-wider env store (next_range first next _ have.numbers) changes);
+          parts = parts_then choices env _
+              (parts_so choices env pairs _ (Contains-append_left pairs (pair ∷ [])) finishes.parts)
+              (parts_so choices env (pair ∷ []) _ (Contains-append_right pairs (pair ∷ [])) parts);
+          cause = fails_so result finishes.cause.ok
+              (λ status. ⊎_elim (λ not. inl (some_not_built choices
+              (Contains-append_right pairs (pair ∷ [])) not)) (λ used_up. inr (inl used_up))) cause;
+        }
       where
         by : (is_due limit pair.0 old ≡ true) ⊎ (old.unfinished ≡ None)
             → IsPutAs later to new result (is_due limit pair.0 old)

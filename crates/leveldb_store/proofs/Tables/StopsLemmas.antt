@@ -20,7 +20,7 @@ use Rattle.leveldb_store.specs.Tables.BuildTable.{flushes_all, puts_all}
 use Rattle.leveldb_store.specs.Tables.TableFile.{IsAddFault, IsFinishFault}
 
 -- a block that a sink takes which takes all
-put_all : {S : Type 0} {puts : S → List ℕ → Result (Unit {0}) Status → S → Type 0} {id : ℕ}
+pub put_all : {S : Type 0} {puts : S → List ℕ → Result (Unit {0}) Status → S → Type 0} {id : ℕ}
     {stored : List ℕ} {from to : S} {offset : ℕ} {handle : Handle} {end : ℕ} (written : List ℕ)
     → PutsBlock puts id stored from offset handle end to
     → PutsBlock puts_all id stored written offset handle end (written ++ with_trailer id stored)
@@ -90,7 +90,7 @@ module _ {S : Type 0} (puts : S → List ℕ → Result (Unit {0}) Status → S 
   put_error : (bytes : List ℕ) (count : ℕ) (from to : S)
       → IsPutError puts bytes count from status to
       → Stops (Faults (IsPutError puts_all bytes count)) from to
-  put_error bytes count from to (inl failed) = put_stops failed
+  put_error bytes count from to (inl (fits, failed)) = put_stops failed
   put_error bytes count from to (inr (same, why)) =
       own_stops same (λ written. (written, inr (refl, why)))
 

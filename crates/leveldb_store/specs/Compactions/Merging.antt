@@ -23,6 +23,7 @@ use Rattle.leveldb_store.specs.Tables.BuildTable.{AreSomeNotBuilt, TableChoices}
 use Rattle.leveldb_store.specs.Tables.Outputs.{AreTables, ChangesNewTables, HaveOutputs, OutputsValue}
 use Rattle.leveldb_store.specs.Compactions.Passing.{IsJustBefore}
 use Rattle.leveldb_store.specs.Tables.TableFile.{FailsToWrite}
+use Rattle.leveldb_store.specs.Tables.TableParts.{HaveTableParts, WritesParts}
 use Rattle.leveldb_store.specs.declared.passing.Passing.{Passing}
 
 -- ---- what is left of pairs
@@ -152,6 +153,7 @@ module _ {C FP : Type 0} {order : CmpGhosts C} {filters : FilterGhosts FP}
         (new : OutputsValue E C FP F) : Type 0 where
       pub ok : OnOk result (HasMerged (read ++ pair ∷ []) later to passing new)
       pub changes : ChangesNewTables env merge.store first later from to
+      pub parts : WritesParts merge.choices env (read ++ pair ∷ []) from to
       pub cause : FailsToWrite (IsMergeFault later (read ++ pair ∷ [])) (env.failures from)
           (env.failures to) result
 
@@ -181,6 +183,11 @@ module _ {C FP : Type 0} {order : CmpGhosts C} {filters : FilterGhosts FP}
       pub few : BearsNewTables env walk merge.store first start → (pairs : List Pair)
           → walk.over start it (key_order order merge.choices.cmp) pairs
           → later ≤ first + length pairs
+      -- now and at each moment on the way a new table is a part of one of some of the list's pairs
+      pub parts : BearsNewTables env walk merge.store first start → (pairs : List Pair)
+          → walk.over start it (key_order order merge.choices.cmp) pairs → IsTrue env.models_disk
+          → Run (HaveTableParts merge.choices (Contains pairs) merge.store first later
+          (env.observed start.0).disk.files) (env.observed start.0) (env.observed end.0)
       -- moves of the walk and new tables lead to where it ends, so that what both keep is kept
       pub comes : IsReachedFrom env walk merge.store first start end
       -- A move failed; or, after some pairs were read, at last a call that writes. Where the walk

@@ -20,6 +20,7 @@ use Rattle.leveldb_files.specs.Steps.StoreSteps.{AppendedAreBytes}
 use Rattle.leveldb_version.specs.Sets.VersionSetValue.{AreFileNumbersUsedUp}
 use Rattle.leveldb_store.specs.Tables.BuildTable.{AreSomeNotBuilt, HasTaken, IsNotBuilt, IsTableFile, TableChoices, puts_all}
 use Rattle.leveldb_store.specs.Tables.TableFile.{FailsToWrite}
+use Rattle.leveldb_store.specs.Tables.TableParts.{WritesParts}
 use Rattle.leveldb_store.specs.declared.table_file.TableFile.{TableFile}
 
 -- ---- what the outputs are
@@ -198,6 +199,7 @@ module _ {C FP : Type 0} {order : CmpGhosts C} {filters : FilterGhosts FP}
         OnOk result (HaveOutputs choices env store first later to new
         (tables_after due tables pairs) (pairs_after due pairs pair))
     pub changes : ChangesNewTables env store first later from to
+    pub parts : WritesParts choices env (pairs ++ pair ∷ []) from to
     pub cause : FailsToWrite (IsPutFault choices pairs old.unfinished pair later)
         (env.failures from) (env.failures to) result
 
@@ -207,6 +209,7 @@ module _ {C FP : Type 0} {order : CmpGhosts C} {filters : FilterGhosts FP}
     pub ok : OnOk result
         (HaveOutputs choices env store first next to new tables (pairs ++ pair ∷ []))
     pub changes : ChangesNewTables env store first next from to
+    pub parts : WritesParts choices env (pairs ++ pair ∷ []) from to
     pub cause : FailsToWrite (IsNotBuilt choices (pairs ++ pair ∷ [])) (env.failures from)
         (env.failures to) result
 
@@ -216,5 +219,6 @@ module _ {C FP : Type 0} {order : CmpGhosts C} {filters : FilterGhosts FP}
     pub ok : IfOk result (λ made. AreTables choices env store first next to (files made)
         (with_table tables pairs))
     pub changes : ChangesNewTables env store first next from to
+    pub parts : WritesParts choices env pairs from to
     pub cause : FailsToWrite (IsNotBuilt choices pairs) (env.failures from) (env.failures to)
         result

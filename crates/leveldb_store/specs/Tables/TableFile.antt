@@ -7,7 +7,7 @@ use Rattle.leveldb_base.specs.declared.cmp.Cmp.{Ghosts as CmpGhosts}
 use Rattle.leveldb_base.specs.declared.error.Status.{Status}
 use Rattle.leveldb_base.specs.declared.types.FileMetaData.{FileMetaData}
 use Rattle.leveldb_env.specs.Compressor.{Codings}
-use Rattle.leveldb_env.specs.Env.{AreBytes, File, HasCause, Run, SameBut, SameLocks, kept_file}
+use Rattle.leveldb_env.specs.Env.{AreBytes, File, HasCause, Run, SameBut, SameLocks, bytes_of, kept_file}
 use Rattle.leveldb_env.specs.EnvFile.{IsLonger, Opened, Syncs, done, failed, opened, opened_file}
 use Rattle.leveldb_env.specs.declared.env.Env.{Ghosts as EnvGhosts}
 use Rattle.leveldb_env.specs.declared.filter.FilterPolicy.{Ghosts as FilterGhosts}
@@ -47,6 +47,21 @@ abbrev pub FailsToWrite : {T : Type 0} → (Status → Type 0) → ℕ → ℕ �
 FailsToWrite Own before now result = HasCause (IsUncounted Own before now) before now result
 
 module _ {E F : Type 0} (env : EnvGhosts E F) where
+  -- the file has the bytes that it had and after them a prefix of these, now and at each moment on
+  -- the way
+  abbrev pub GrowsBy : Opened E F → List ℕ → E → Type 0
+  GrowsBy from bytes to = IsTrue env.models_disk → (was : File)
+      → opened_file env from ≡ Some was
+      → Run (λ files. (file : File) × (files (env.name_of from.file) ≡ Some file)
+      × (rest : List ℕ) × (bytes_of was ++ bytes ≡ bytes_of file ++ rest))
+      (env.observed from.env) (env.observed to)
+
+  -- of bytes that may be put a prefix is appended to the file
+  pub record LeavesPart (May : List ℕ → Type 0) (from : Opened E F) (to : E) : Type 0 where
+    pub bytes : List ℕ
+    pub may : May bytes
+    pub grows : GrowsBy from bytes to
+
   -- a call that writes a table's file failed, for one of these causes or another
   pub record StopsWriting (Own : Status → Type 0) (from : Opened E F) (status : Status) (to : E)
       : Type 0 where
@@ -77,6 +92,21 @@ module _ {C FP : Type 0} (order : CmpGhosts C) (filters : FilterGhosts FP) (codi
   abbrev pub IsFinishFault : TableBuilt C FP → Status → Type 0
   IsFinishFault core status = (written : List ℕ) → (to : List ℕ)
       × IsFinishError order filters codings core puts_all flushes_all written status to
+
+  -- with these bytes after what it put before, whatever that was, it doesn't finish it either
+  abbrev pub IsUnfinishedWith : TableBuilt C FP → List ℕ → Type 0
+  IsUnfinishedWith core bytes = (written : List ℕ) → (status : Status)
+      × IsFinishError order filters codings core puts_all flushes_all written status
+      (written ++ bytes)
+
+  -- What it may put next where a call fails: bytes with which it doesn't finish its table, or all
+  -- that is left of it.
+  abbrev pub MayPut : TableBuilt C FP → List ℕ → Type 0
+  MayPut core bytes = IsUnfinishedWith core bytes
+      ⊎ ((written : List ℕ) (pairs : List Pair)
+      → IsBegun codings order filters core written pairs
+      → IsTableUnder order filters codings (order_of core) (policy_of core) core.compressor
+      core.block.interval core.index.interval (written ++ bytes) pairs)
 
   module _ {E F : Type 0} (env : EnvGhosts E F) where
     -- a pair was added: the block that was closed, if one was, is appended to the file

@@ -111,7 +111,7 @@ impl<C: Cmp + Copy, FP: FilterPolicy> BuilderCore<C, FP> {
     ghost use Rattle.leveldb_table.specs.TableBuilderStage.{Closes, first_key, with_pair};
     ghost use Rattle.leveldb_table.specs.TableBuilder.{IsNewBuilder, stage, last_of, order_of, policy_of, IsBegun, IsBroken, IsReady, IsReadyFor, IsClosable, KeepsChoices, StaysUnfinished, IsBuiltTable, IsFull, table_estimate, PutsEnd, ClosesLast, MakesRoom, AddsPair, FinishesTable};
     ghost use Rattle.leveldb_table.specs.TableBuilderAdd.{TakesPair, TakesNoPair, HasRoom, IsNotClosed};
-    ghost use Rattle.leveldb_table.specs.TableBuilderFinish.{IsFinished, StopsFromFilters, ClosesRest, IsLeftOpen, IsFinishError, CannotFinish};
+    ghost use Rattle.leveldb_table.specs.TableBuilderFinish.{IsFinished, StopsFromFilters, ClosesRest, IsLeftOpen, IsFinishError, CannotFinish, RestMakesTable};
 
     /// A builder under the options' order and policy as they are.
     pub fn new(alloc: Global, options: &Options<C, FP>) -> BuilderCore<C, FP>
@@ -227,6 +227,8 @@ impl<C: Cmp + Copy, FP: FilterPolicy> BuilderCore<C, FP> {
             sink.old status sink.new) }
         ensures cannot { let codings = ⟦<CompressorList as Compressors>⟧.codings compressors.now in
             CannotFinish C.Cmp FP.FilterPolicy codings self S.puts sink.old result sink.new }
+        ensures rest { RestMakesTable C.Cmp FP.FilterPolicy
+            (⟦<CompressorList as Compressors>⟧.codings compressors.now) self }
     {
         self.check_unbroken()?;
         self.broken = true;

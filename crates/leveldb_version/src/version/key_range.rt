@@ -3,7 +3,7 @@
 ghost use Rattle.std.specs.Prelude.{◌≡◌};
 ghost use Rattle.std.specs.Option.{option_copied};
 ghost use Rattle.leveldb_version.specs.Compactions.Compaction.{closed_range};
-ghost use Rattle.leveldb_files.specs.Levels.Overlap.{is_above, is_below, named_end, named_range, overlaps, sticks_out, with_file};
+ghost use Rattle.leveldb_files.specs.Levels.Overlap.{is_above, is_below, named_end, named_range, overlaps, sticks_out, widened_by};
 ghost use Rattle.leveldb_version.specs.Edits.VersionEdit.{new_file_of};
 
 use leveldb_base::cmp::Cmp;
@@ -69,7 +69,7 @@ impl<'a> KeyRange<'a> {
 
     /// Widens the range to that of the file.
     pub(super) fn widen<C: Cmp>(&mut self, ucmp: &C, file: &'a (usize, FileMetaData))
-        ensures { self.new ≡ with_file (C.cmp ucmp.now) self.old (new_file_of file.now) }
+        ensures { self.new ≡ widened_by (C.cmp ucmp.now) self.old (new_file_of file.now) }
     {
         let (smallest, _) = split_sequence(&file.1.smallest);
         let (largest, _) = split_sequence(&file.1.largest);

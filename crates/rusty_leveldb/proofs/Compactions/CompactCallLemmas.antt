@@ -17,7 +17,7 @@ use Rattle.rusty_leveldb.specs.Engines.Boxes.{EngineOf, InternalOrder}
 use Rattle.rusty_leveldb.specs.Engines.Calls.{EngineCompacts, KeepsModeOrBreaks}
 use Rattle.rusty_leveldb.specs.Compactions.Compact.{EngineCompactsStore}
 use Rattle.rusty_leveldb.specs.Machines.Causes.{Setting, bad_operand}
-use Rattle.rusty_leveldb.specs.Engines.Engine.{AnswersStill, CompactExcused, RefusedByMode, formats_of, options_in}
+use Rattle.rusty_leveldb.specs.Engines.Engine.{AnswersStill, CompactExcused, RefusedByMode, formats_of, engine_options}
 use Rattle.rusty_leveldb.specs.Compactions.CompactionLaws.{HasViewsInTables}
 use Rattle.rusty_leveldb.specs.Engines.Frame.{MayTouch}
 use Rattle.rusty_leveldb.specs.Machines.Machine.{Refuses, Step}
@@ -25,7 +25,7 @@ use Rattle.rusty_leveldb.specs.Engines.Rows.{RepresentsAt}
 use Rattle.rusty_leveldb.specs.Engines.Serves.{refusal_of, setting_between}
 use Rattle.rusty_leveldb.specs.Machines.State as machine
 use Rattle.rusty_leveldb.specs.Machines.State.{State, compact_range, refused}
-use Rattle.rusty_leveldb.proofs.Engines.CallsLemmas.{halted_still, not_halted, not_refused}
+use Rattle.rusty_leveldb.proofs.Engines.CallsLemmas.{refused_stays, open_is_neither, not_refused}
 use Rattle.rusty_leveldb.proofs.Compactions.CompactingLemmas.{compact_goes, compact_tells}
 use Rattle.rusty_leveldb.proofs.Compactions.CompactionLawsLemmas.{views_in_tables}
 use Rattle.rusty_leveldb.proofs.Engines.EngineLemmas.{follows_open}
@@ -43,10 +43,10 @@ module _ {E C FP F P : Type 0} {B : Boxed} {keys : InternalOrder C} {key_filters
   -- ---- nothing is done
 
   -- the mode refuses it
-  pub halted_compacts : (status : Status) → RefusedByMode before.mode status
+  pub refused_compacts : (status : Status) → RefusedByMode before.mode status
       → EngineCompacts env choices before from low high (Err status) before from
-  halted_compacts status why =
-      let step = halted_still env choices before (compact_range low high) tt status why from in
+  refused_compacts status why =
+      let step = refused_stays env choices before (compact_range low high) tt status why from in
       let row = compact_row keys env formats before from before from low high (Err status) step in
       record {
         ok = row.0;
@@ -57,7 +57,7 @@ module _ {E C FP F P : Type 0} {B : Boxed} {keys : InternalOrder C} {key_filters
         mode = tt;
         failed = inr refl;
         last = refl;
-        entries = memory_same env (formats (options_in before)) before.store from;
+        entries = memory_same env (formats (engine_options before)) before.store from;
         tables_made = tt;
         by_tables = tt;
         clear = tt;
@@ -107,12 +107,12 @@ module _ {E C FP F P : Type 0} {B : Boxed} {keys : InternalOrder C} {key_filters
           ok = row.0;
           err = row.1;
           step = step;
-          refused_by_mode = λ refused_by_mode. absurd (not_halted before.mode opened refused_by_mode);
+          refused_by_mode = λ refused_by_mode. absurd (open_is_neither before.mode opened refused_by_mode);
           misfit = λ is too_long. (refl, refl, code);
           mode = tt;
           failed = inr refl;
           last = refl;
-          entries = memory_same env (formats (options_in before)) before.store from;
+          entries = memory_same env (formats (engine_options before)) before.store from;
           tables_made = tt;
           by_tables = tt;
           clear = tt;
@@ -182,7 +182,7 @@ module _ {E C FP F P : Type 0} {B : Boxed} {keys : InternalOrder C} {key_filters
             ok = row.0;
             err = row.1;
             step = step;
-            refused_by_mode = λ refused_by_mode. absurd (not_halted before.mode opened refused_by_mode);
+            refused_by_mode = λ refused_by_mode. absurd (open_is_neither before.mode opened refused_by_mode);
             misfit = λ is long. absurd (⊎_elim low_fits high_fits long);
             mode = mode_then result it;
             failed = failed_then result it;

@@ -25,13 +25,13 @@ use Rattle.leveldb_store.specs.Keeping.WrittenFrom.{KeepsStoreFrom, KeepsWritten
 use Rattle.rusty_leveldb.specs.Engines.Boxes.{EngineOf, InternalOrder}
 use Rattle.rusty_leveldb.specs.Compactions.Compact.{EngineCompactsStore}
 use Rattle.rusty_leveldb.specs.Machines.Causes.{Cause, IsCausedBy, Fits, Setting, device_failed, out_of_memory}
-use Rattle.rusty_leveldb.specs.Engines.Engine.{Answers, Recalls, ShowsViews, formats_of, options_in, scene, tables_by}
+use Rattle.rusty_leveldb.specs.Engines.Engine.{Answers, Recalls, ShowsViews, formats_of, engine_options, scene, tables_by}
 use Rattle.rusty_leveldb.specs.Machines.Machine.{Breaks, Refuses, Risk, Step, risk_between}
 use Rattle.rusty_leveldb.specs.Engines.Serves.{TakesStep, IsSpared, Represents, done_or, refusal_of, setting_between}
 use Rattle.rusty_leveldb.specs.Machines.State as machine
 use Rattle.rusty_leveldb.specs.Machines.State.{Answer, State, compact_range, done, open_mode, refused}
 use Rattle.rusty_leveldb.proofs.Engines.EngineLemmas.{SameSnapshots, Stays, follows_open, goes, is_of, none, not_closed, same_format, state_open, views_still}
-use Rattle.rusty_leveldb.proofs.Engines.KeptLemmas.{kept_holds, kept_last, kept_run, kept_spares, spared_first, store_tells, told_by}
+use Rattle.rusty_leveldb.proofs.Engines.KeptLemmas.{kept_holds, kept_last, kept_run, kept_spares, spared_first, store_tells, tables_by_stay}
 use Rattle.rusty_leveldb.proofs.Engines.HeldViewsLemmas.{MakesTables, agrees_by, by_device, by_memory, has_open, tables_cause, views_held, written_by}
 use Rattle.rusty_leveldb.proofs.Engines.ReadsLemmas.{may_stay}
 use Rattle.rusty_leveldb.proofs.Engines.SyncLemmas.{risk_now}
@@ -46,7 +46,7 @@ pub compact_tells : {E C FP F P : Type 0} {B : Boxed} {keys : InternalOrder C}
     (after : EngineOf E C FP F B) (to : E)
     → EngineCompactsStore env choices before from low high result after to
     → is_some after.options.log ≡ is_some before.options.log
-    → ChangesLoggerOnly (options_in before) (options_in after)
+    → ChangesLoggerOnly (engine_options before) (engine_options after)
 compact_tells env choices before from low high result after to it sink =
     store_tells before after it.rest it.compacts.keeps.rest.cmp sink
 
@@ -77,7 +77,7 @@ module _ {E C FP F P : Type 0} {B : Boxed} {keys : InternalOrder C} {key_filters
   abbrev files_then : Files
   files_then = (env.observed to).disk.files
 
-  same : formats (options_in before) ≡ old.format
+  same : formats (engine_options before) ≡ old.format
   same = same_format env formats store meaning before from old was opened
 
   tables_open : HasOpenTables keys env by before.store from before.tables
@@ -154,7 +154,7 @@ module _ {E C FP F P : Type 0} {B : Boxed} {keys : InternalOrder C} {key_filters
       after.tables
   tables_then = subst (λ (b : TableOptions C FP).
       AreOpenTablesOf keys env b after.store.set files_then after.tables)
-      (sym (told_by formats ignores before after
+      (sym (tables_by_stay formats ignores before after
       (compact_tells env choices before from low high result after to it sink)))
       (it.compacts.keeps.still_open tables_open)
 
@@ -171,7 +171,7 @@ module _ {E C FP F P : Type 0} {B : Boxed} {keys : InternalOrder C} {key_filters
       locked_is unbroken step =
       goes env formats store meaning before from old was opened after to new (record {
         lock = ap (λ (e : EngineOf E C FP F B). e.lock) it.rest;
-        options = ignores (options_in before) (options_in after)
+        options = ignores (engine_options before) (engine_options after)
             (compact_tells env choices before from low high result after to it sink);
         path = it.compacts.keeps.rest.store;
         store_is = store_is;
@@ -261,11 +261,11 @@ module _ {E C FP F P : Type 0} {B : Boxed} {keys : InternalOrder C} {key_filters
       it.mode
     where
       causes : FailsToCompactRange keys env by before.store from before.tables
-          (choices (options_in before)) after.store status
+          (choices (engine_options before)) after.store status
           ⊎ HasFailed (env.failures from) (env.failures to)
       causes = subst (λ (r : Result (Unit {0}) Status). IfErr r (λ e.
           FailsToCompactRange keys env by before.store from before.tables
-          (choices (options_in before)) after.store e
+          (choices (engine_options before)) after.store e
           ⊎ HasFailed (env.failures from) (env.failures to))) fails it.compacts.keeps.cause.cause
 
 -- so the machine does the request, or refuses it

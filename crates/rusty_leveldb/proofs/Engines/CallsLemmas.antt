@@ -27,7 +27,7 @@ use Rattle.rusty_leveldb.specs.Engines.EngineValue.{FollowsStore}
 use Rattle.leveldb_base.specs.KeyTypes.{IsLongKey}
 use Rattle.rusty_leveldb.specs.Engines.Calls.{EngineCloses, EngineFlushes, EngineGets, EngineWrites, IsRefusedByMode, KeepsModeOrBreaks}
 use Rattle.rusty_leveldb.specs.Machines.Causes.{IsClosedRefusal, IsBrokenRefusal, IsNotHeld, Setting}
-use Rattle.rusty_leveldb.specs.Engines.Engine.{AnswersStill, GetExcused, GetFails, IsClosedOrBroken, RefusedAsBroken, RefusedAsClosed, RefusedByMode, SyncExcused, held_in, options_in, formats_of, tables_by, ReadsAt}
+use Rattle.rusty_leveldb.specs.Engines.Engine.{AnswersStill, GetExcused, GetFails, IsClosedOrBroken, RefusedAsBroken, RefusedAsClosed, RefusedByMode, SyncExcused, held_in, engine_options, formats_of, tables_by, IsEngineSequence}
 use Rattle.rusty_leveldb.specs.Engines.Frame.{MayTouch}
 use Rattle.rusty_leveldb.specs.Machines.Machine.{Step}
 use Rattle.rusty_leveldb.specs.Engines.Serves.{refusal_of, setting_between}
@@ -53,8 +53,8 @@ broken_text None is = inl refl
 broken_text (Some text) is = inr is
 
 -- an engine that is open is neither closed nor broken
-pub not_halted : (mode : machine.Mode) → mode ≡ machine.open_mode → IsClosedOrBroken mode → ⊥
-not_halted mode is = ⊎_elim
+pub open_is_neither : (mode : machine.Mode) → mode ≡ machine.open_mode → IsClosedOrBroken mode → ⊥
+open_is_neither mode is = ⊎_elim
     (λ (closed : mode ≡ machine.closed).
     let never : machine.open_mode ≡ machine.closed = sym is ∙ closed in cc)
     (λ (broke : mode ≡ machine.broken).
@@ -63,12 +63,12 @@ not_halted mode is = ⊎_elim
 -- nor does its mode refuse a request
 pub not_refused : (mode : machine.Mode) (e : Status) → mode ≡ machine.open_mode
     → RefusedByMode mode e → ⊥
-not_refused mode e is = ⊎_elim (λ (out : RefusedAsClosed mode e). not_halted mode is (inl out.0))
-    (λ (down : RefusedAsBroken mode e). not_halted mode is (inr down.0))
+not_refused mode e is = ⊎_elim (λ (out : RefusedAsClosed mode e). open_is_neither mode is (inl out.0))
+    (λ (down : RefusedAsBroken mode e). open_is_neither mode is (inr down.0))
 
 -- a mode that refuses a request is closed or broken
-pub halted_by : (mode : machine.Mode) (e : Status) → RefusedByMode mode e → IsClosedOrBroken mode
-halted_by mode e = ⊎_elim (λ (out : RefusedAsClosed mode e). inl out.0)
+pub closed_or_broken_by : (mode : machine.Mode) (e : Status) → RefusedByMode mode e → IsClosedOrBroken mode
+closed_or_broken_by mode e = ⊎_elim (λ (out : RefusedAsClosed mode e). inl out.0)
     (λ (down : RefusedAsBroken mode e). inr down.0)
 
 -- a request that writes
@@ -105,10 +105,10 @@ module _ {E C FP F P : Type 0} {B : Boxed} {keys : InternalOrder C} {key_filters
   -- ---- a call that the mode refuses
 
   -- the machine refuses it so
-  pub halted_still : (request : Request) → Writes request → (status : Status)
+  pub refused_stays : (request : Request) → Writes request → (status : Status)
       → RefusedByMode before.mode status
       → AnswersStill keys env formats before request (refused (refusal_of status))
-  halted_still request writes status why at store meaning modelled old was = record {
+  refused_stays request writes status why at store meaning modelled old was = record {
     new = old;
     represents = was;
     later = omega arith;
@@ -135,10 +135,10 @@ module _ {E C FP F P : Type 0} {B : Boxed} {keys : InternalOrder C} {key_filters
     by_mode : IsRefusedByMode {T = Unit {0}} before at (Err status) before at
     by_mode = (refl, refl, why)
 
-    pub halted_writes : (items : List Item) (sync : Bool)
+    pub refused_writes : (items : List Item) (sync : Bool)
         → EngineWrites env choices before at items sync (Err status) before at
-    halted_writes items sync =
-        let step = halted_still (write items sync) tt status why at in
+    refused_writes items sync =
+        let step = refused_stays (write items sync) tt status why at in
         let row = write_row keys env formats before at before at items sync (Err status) step in
         record {
           ok = row.0;
@@ -150,7 +150,7 @@ module _ {E C FP F P : Type 0} {B : Boxed} {keys : InternalOrder C} {key_filters
           waits = tt;
           logs = tt;
           failed = (inr refl, (refl, λ room. (refl, refl)));
-          entries = kept_as_they_are env (formats (options_in before)) before.store at;
+          entries = kept_as_they_are env (formats (engine_options before)) before.store at;
           breaks = inr (inl refl);
           snapshots = refl;
           options = record { rest = refl; sink = refl };
@@ -159,9 +159,9 @@ module _ {E C FP F P : Type 0} {B : Boxed} {keys : InternalOrder C} {key_filters
           cause = record { later = omega arith; cause = inl (inl why) };
         }
 
-    pub halted_flushes : EngineFlushes env choices before at (Err status) before at
-    halted_flushes =
-        let step = halted_still flush tt status why at in
+    pub refused_flushes : EngineFlushes env choices before at (Err status) before at
+    refused_flushes =
+        let step = refused_stays flush tt status why at in
         let row = flush_row keys env formats before at before at (Err status) step in
         record {
           ok = row.0;
@@ -169,7 +169,7 @@ module _ {E C FP F P : Type 0} {B : Boxed} {keys : InternalOrder C} {key_filters
           step = step;
           refused_by_mode = λ refused_by_mode. by_mode;
           mode = tt;
-          failed = (inr refl, inl (halted_by before.mode status why));
+          failed = (inr refl, inl (closed_or_broken_by before.mode status why));
           memory = refl;
           snapshots = refl;
           options = record { rest = refl; sink = refl };
@@ -183,9 +183,9 @@ module _ {E C FP F P : Type 0} {B : Boxed} {keys : InternalOrder C} {key_filters
           };
         }
 
-    pub halted_closes : EngineCloses env choices before at (Err status) before at
-    halted_closes =
-        let step = halted_still close tt status why at in
+    pub refused_closes : EngineCloses env choices before at (Err status) before at
+    refused_closes =
+        let step = refused_stays close tt status why at in
         let row = close_row keys env formats before at before at (Err status) step in
         record {
           ok = row.0;
@@ -195,7 +195,7 @@ module _ {E C FP F P : Type 0} {B : Boxed} {keys : InternalOrder C} {key_filters
           mode = tt;
           failed = ⊎_elim (λ (out : before.mode ≡ machine.closed). inr (out, out))
               (λ (broke : before.mode ≡ machine.broken). inl broke)
-              (halted_by before.mode status why);
+              (closed_or_broken_by before.mode status why);
           memory = refl;
           snapshots = refl;
           options = record { rest = refl; sink = refl };
@@ -225,7 +225,7 @@ module _ {E C FP F P : Type 0} {B : Boxed} {keys : InternalOrder C} {key_filters
 
     sync_tells : (result : Result (Unit {0}) Status) (m : machine.Mode)
         → SyncsLog env before.store from result value mid
-        → ChangesLoggerOnly (options_in before) (options_in {E = E} {C = C} {FP = FP} {F = F} {B = B}
+        → ChangesLoggerOnly (engine_options before) (engine_options {E = E} {C = C} {FP = FP} {F = F} {B = B}
         (record before { store = value; mode = m }))
     sync_tells result m syncs = record {
       rest = ap (λ (c : C). record before.options { cmp = c }) (sync_cmp result syncs);
@@ -280,8 +280,8 @@ module _ {E C FP F P : Type 0} {B : Boxed} {keys : InternalOrder C} {key_filters
     pub flush_serves : IsUnbroken before.store → (m : machine.Mode) → FollowsStore m value
         → (result : Result (Unit {0}) Status)
         → SyncsLog env before.store from result value mid
-        → SyncsBatches env (formats (options_in before)).order before.store from result value mid
-        → IsSoundCall {T = Unit {0}} env (formats (options_in before)).order any_meaning before.store
+        → SyncsBatches env (formats (engine_options before)).order before.store from result value mid
+        → IsSoundCall {T = Unit {0}} env (formats (engine_options before)).order any_meaning before.store
         from result value mid
         → EngineFlushes env choices before from result
         (record before { store = value; mode = m }) mid
@@ -294,7 +294,7 @@ module _ {E C FP F P : Type 0} {B : Boxed} {keys : InternalOrder C} {key_filters
           ok = row.0;
           err = row.1;
           step = step;
-          refused_by_mode = λ refused_by_mode. absurd (not_halted before.mode opened refused_by_mode);
+          refused_by_mode = λ refused_by_mode. absurd (open_is_neither before.mode opened refused_by_mode);
           mode = flush_mode m follows unbroken result syncs;
           failed = flush_failed m follows result syncs;
           memory = sync_only env before from opened value mid result syncs;
@@ -308,8 +308,8 @@ module _ {E C FP F P : Type 0} {B : Boxed} {keys : InternalOrder C} {key_filters
 
     pub close_unsynced_serves : (status : Status)
         → SyncsLog env before.store from (Err status) value mid
-        → SyncsBatches env (formats (options_in before)).order before.store from (Err status) value mid
-        → IsSoundCall {T = Unit {0}} env (formats (options_in before)).order any_meaning before.store
+        → SyncsBatches env (formats (engine_options before)).order before.store from (Err status) value mid
+        → IsSoundCall {T = Unit {0}} env (formats (engine_options before)).order any_meaning before.store
         from (Err status) value mid
         → EngineCloses env choices before from (Err status)
         (record before { store = value; mode = machine.broken }) mid
@@ -321,7 +321,7 @@ module _ {E C FP F P : Type 0} {B : Boxed} {keys : InternalOrder C} {key_filters
           ok = row.0;
           err = row.1;
           step = step;
-          refused_by_mode = λ refused_by_mode. absurd (not_halted before.mode opened refused_by_mode);
+          refused_by_mode = λ refused_by_mode. absurd (open_is_neither before.mode opened refused_by_mode);
           mode = tt;
           failed = inl refl;
           memory = sync_only env before from opened value mid (Err status) syncs;
@@ -341,9 +341,9 @@ module _ {E C FP F P : Type 0} {B : Boxed} {keys : InternalOrder C} {key_filters
         }
 
     module _ (syncs : SyncsLog env before.store from (Ok tt) value mid)
-        (batches : SyncsBatches env (formats (options_in before)).order before.store from (Ok tt) value
+        (batches : SyncsBatches env (formats (engine_options before)).order before.store from (Ok tt) value
         mid)
-        (sound : IsSoundCall {T = Unit {0}} env (formats (options_in before)).order any_meaning
+        (sound : IsSoundCall {T = Unit {0}} env (formats (engine_options before)).order any_meaning
         before.store from (Ok tt) value mid)
         (to : E) (lock : List ℕ) (lock_is : lock ≡ before.lock) where
       pub close_locked_serves : (status : Status)
@@ -363,7 +363,7 @@ module _ {E C FP F P : Type 0} {B : Boxed} {keys : InternalOrder C} {key_filters
             ok = row.0;
             err = row.1;
             step = step;
-            refused_by_mode = λ refused_by_mode. absurd (not_halted before.mode opened refused_by_mode);
+            refused_by_mode = λ refused_by_mode. absurd (open_is_neither before.mode opened refused_by_mode);
             mode = tt;
             failed = inl refl;
             memory = sync_only env before from opened value mid (Ok tt) syncs;
@@ -395,7 +395,7 @@ module _ {E C FP F P : Type 0} {B : Boxed} {keys : InternalOrder C} {key_filters
             ok = row.0;
             err = row.1;
             step = step;
-            refused_by_mode = λ refused_by_mode. absurd (not_halted before.mode opened refused_by_mode);
+            refused_by_mode = λ refused_by_mode. absurd (open_is_neither before.mode opened refused_by_mode);
             mode = refl;
             failed = tt;
             memory = sync_only env before from opened value mid (Ok tt) syncs;
@@ -422,9 +422,9 @@ module _ {E C FP F P : Type 0} {B : Boxed} {keys : InternalOrder C} {key_filters
         → ((Why : Status → Type 0) → IfErr result (GetExcused before snapshot key Why))
         → GetFails keys env formats before from snapshot key result from
     unread_fails result why = record {
-      cause = fails (λ e. IsTableFault (formats (options_in before)) e.code);
+      cause = fails (λ e. IsTableFault (formats (engine_options before)) e.code);
       lacks = λ meaning live there. fails (λ e. (e.code ≡ NotSupported)
-          × LacksCompressor (formats (options_in before)) meaning);
+          × LacksCompressor (formats (engine_options before)) meaning);
     }
       where
         fails : (Why : Status → Type 0)
@@ -479,20 +479,20 @@ module _ {E C FP F P : Type 0} {B : Boxed} {keys : InternalOrder C} {key_filters
             cause = unread_fails (Err status) (λ Why. inr (inl (code, misfits)));
           }
 
-      pub get_serves : (sequence : ℕ) → ReadsAt before snapshot sequence → (IsLongKey key → ⊥)
+      pub get_serves : (sequence : ℕ) → IsEngineSequence before snapshot sequence → (IsLongKey key → ⊥)
           → (to : E) (result : Result (Option (List ℕ)) Status)
           (value : OpenStoreValue C) (cache : TableCache E C FP F)
           → LooksUpKey keys env (tables_by formats before) before.store from before.tables sequence key
           result value to cache
           → EngineGets env choices before from snapshot key result
-          (record before { options = options_in before; store = value; tables = cache }) to
+          (record before { options = engine_options before; store = value; tables = cache }) to
       get_serves sequence reads short to result value cache looks =
           let same = read_store env formats before snapshot key usable sequence reads short from to
           result value cache looks in
           let step = get_goes env formats before snapshot key usable sequence reads short from to result
           value cache looks in
           let row = get_row keys env formats before from
-          (record before { options = options_in before; store = value; tables = cache }) to snapshot
+          (record before { options = engine_options before; store = value; tables = cache }) to snapshot
           key result step in
           record {
             ok = row.0;
@@ -506,7 +506,7 @@ module _ {E C FP F P : Type 0} {B : Boxed} {keys : InternalOrder C} {key_filters
               rest = ap (λ (v : OpenStoreValue C). record before.options { cmp = v.cmp }) same;
               sink = refl;
             };
-            rest = rest_read env before from snapshot key result to (options_in before) value cache same
+            rest = rest_read env before from snapshot key result to (engine_options before) value cache same
                 looks.reads.kept_disk;
             time = λ modelled. (looks.reads.kept_disk.disk modelled).time.later;
             cause = get_cause env formats before snapshot key usable sequence reads short from to result
@@ -515,7 +515,7 @@ module _ {E C FP F P : Type 0} {B : Boxed} {keys : InternalOrder C} {key_filters
 
       -- the same where the options were given the store's order
       pub get_serves_in : (cmp : C) → cmp ≡ before.store.cmp → (sequence : ℕ)
-          → ReadsAt before snapshot sequence → (IsLongKey key → ⊥) → (to : E)
+          → IsEngineSequence before snapshot sequence → (IsLongKey key → ⊥) → (to : E)
           (result : Result (Option (List ℕ)) Status) (value : OpenStoreValue C)
           (cache : TableCache E C FP F)
           → (let options : OptionsOf C FP B = record before.options { cmp = cmp } in

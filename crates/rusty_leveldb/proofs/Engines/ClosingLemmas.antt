@@ -19,7 +19,7 @@ use Rattle.leveldb_store.specs.Writing.WriteBatch.{MakesDurable, SyncsBatches}
 use Rattle.rusty_leveldb.specs.Engines.Boxes.{EngineOf, InternalOrder}
 use Rattle.rusty_leveldb.specs.Engines.EngineValue.{FollowsStore}
 use Rattle.rusty_leveldb.specs.Machines.Causes.{Cause, IsCausedBy, ReachesDevice, Setting, device_failed, out_of_memory}
-use Rattle.rusty_leveldb.specs.Engines.Engine.{Answers, Recalls, options_in, scene}
+use Rattle.rusty_leveldb.specs.Engines.Engine.{Answers, Recalls, engine_options, scene}
 use Rattle.rusty_leveldb.specs.Engines.Frame.{MayTouch, SameBytes}
 use Rattle.rusty_leveldb.specs.Machines.Machine.{Breaks, LeavesRefused, MayBreak, Responds, Step, closed_state}
 use Rattle.rusty_leveldb.specs.Engines.Serves.{TakesStep, IsSpared, Reads, Represents, done_or, refusal_of, setting_between}
@@ -90,8 +90,8 @@ module _ {E C FP F : Type 0} {B : Boxed} {keys : InternalOrder C} (env : Ghosts 
           (was : Represents store meaning (Recalls keys env formats store meaning)
           (Some before) (env.observed from).disk old) where
         flushed : (syncs : SyncsLog env before.store from (Ok tt) value mid)
-            → SyncsBatches env (formats (options_in before)).order before.store from (Ok tt) value mid
-            → IsSoundCall {T = Unit {0}} env (formats (options_in before)).order any_meaning before.store from
+            → SyncsBatches env (formats (engine_options before)).order before.store from (Ok tt) value mid
+            → IsSoundCall {T = Unit {0}} env (formats (engine_options before)).order any_meaning before.store from
             (Ok tt) value mid
             → TakesStep store meaning (Recalls keys env formats store meaning) (scene env (Some before) from)
             flush
@@ -155,9 +155,9 @@ module _ {E C FP F : Type 0} {B : Boxed} {keys : InternalOrder C} (env : Ghosts 
         flush_leaves status new cause may breaks = absurd may
 
         unflushed : (status : Status) → SyncsLog env before.store from (Err status) value mid
-            → SyncsBatches env (formats (options_in before)).order before.store from (Err status) value
+            → SyncsBatches env (formats (engine_options before)).order before.store from (Err status) value
             mid
-            → IsSoundCall {T = Unit {0}} env (formats (options_in before)).order any_meaning before.store from
+            → IsSoundCall {T = Unit {0}} env (formats (engine_options before)).order any_meaning before.store from
             (Err status) value mid
             → TakesStep store meaning (Recalls keys env formats store meaning) (scene env (Some before) from)
             flush
@@ -185,8 +185,8 @@ module _ {E C FP F : Type 0} {B : Boxed} {keys : InternalOrder C} (env : Ghosts 
 
       pub flush_goes : IsUnbroken before.store → (m : machine.Mode) → FollowsStore m value
           → (result : Result (Unit {0}) Status) → SyncsLog env before.store from result value mid
-          → SyncsBatches env (formats (options_in before)).order before.store from result value mid
-          → IsSoundCall {T = Unit {0}} env (formats (options_in before)).order any_meaning before.store from result value mid
+          → SyncsBatches env (formats (engine_options before)).order before.store from result value mid
+          → IsSoundCall {T = Unit {0}} env (formats (engine_options before)).order any_meaning before.store from result value mid
           → Answers keys env formats (Some before) from flush (done_or result)
           (Some (record before { store = value; mode = m })) mid
       flush_goes unbroken m follows (Ok nothing) syncs batches sound store meaning modelled old was =
@@ -199,8 +199,8 @@ module _ {E C FP F : Type 0} {B : Boxed} {keys : InternalOrder C} (env : Ghosts 
       -- the log wasn't synced
       pub close_unsynced : (status : Status)
           → SyncsLog env before.store from (Err status) value mid
-          → SyncsBatches env (formats (options_in before)).order before.store from (Err status) value mid
-          → IsSoundCall {T = Unit {0}} env (formats (options_in before)).order any_meaning before.store from
+          → SyncsBatches env (formats (engine_options before)).order before.store from (Err status) value mid
+          → IsSoundCall {T = Unit {0}} env (formats (engine_options before)).order any_meaning before.store from
           (Err status) value mid
           → Answers keys env formats (Some before) from close (refused (refusal_of status))
           (Some (record before { store = value; mode = machine.broken })) mid
@@ -210,9 +210,9 @@ module _ {E C FP F : Type 0} {B : Boxed} {keys : InternalOrder C} (env : Ghosts 
           (λ answer responds. responds) refl
 
       module _ (syncs : SyncsLog env before.store from (Ok tt) value mid)
-          (batches : SyncsBatches env (formats (options_in before)).order before.store from (Ok tt)
+          (batches : SyncsBatches env (formats (engine_options before)).order before.store from (Ok tt)
           value mid)
-          (sound : IsSoundCall {T = Unit {0}} env (formats (options_in before)).order any_meaning before.store from
+          (sound : IsSoundCall {T = Unit {0}} env (formats (engine_options before)).order any_meaning before.store from
           (Ok tt) value mid)
           (to : E) (lock : List ℕ) (lock_is : lock ≡ before.lock) where
         module _ (store : List ℕ) (meaning : Meaning) (modelled : IsTrue env.models_disk)

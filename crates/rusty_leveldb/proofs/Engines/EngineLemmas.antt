@@ -20,7 +20,7 @@ use Rattle.leveldb_store.specs.Writing.WriteBatch.{HoldsBatches, IsOf, SparesBat
 use Rattle.leveldb_store.specs.Keeping.Written.{IsWritten, KeepsShown, HasView}
 use Rattle.rusty_leveldb.specs.Engines.Boxes.{EngineOf, InternalOrder}
 use Rattle.rusty_leveldb.specs.Engines.EngineValue.{FollowsStore, IsUnbrokenIfOpen}
-use Rattle.rusty_leveldb.specs.Engines.Engine.{HasOwnTables, HasSnapshots, Recalls, ShowsViews, options_in, scene}
+use Rattle.rusty_leveldb.specs.Engines.Engine.{HasOwnTables, HasSnapshots, Recalls, ShowsViews, engine_options, scene}
 use Rattle.rusty_leveldb.specs.Engines.Frame.{IsSyncing, MayTouch, SameBytes, Spares}
 use Rattle.rusty_leveldb.specs.Machines.Machine.{Step, risk_of}
 use Rattle.rusty_leveldb.specs.Engines.Serves.{TakesStep, IsSpared, Reads, Represents, StandsFor, setting_between}
@@ -150,7 +150,7 @@ module _ {E C FP F : Type 0} {B : Boxed} {keys : InternalOrder C} (env : Ghosts 
   pub none : old.pending ≡ None
   none = (subst (λ m. SuitsMode m old) state_open was.disk_is.is_state.mode).0
 
-  pub same_format : formats (options_in before) ≡ old.format
+  pub same_format : formats (engine_options before) ≡ old.format
   same_format = was.memory_is.format not_closed
 
   -- the store holds the history, as the laws of its files say it
@@ -253,7 +253,7 @@ module _ {E C FP F : Type 0} {B : Boxed} {keys : InternalOrder C} (env : Ghosts 
   -- store and the format of the state before, and its snapshots.
   pub record Ends (after : EngineOf E C FP F B) (to : E) (new : State) : Type 0 where
     pub lock : after.lock ≡ before.lock
-    pub options : formats (options_in after) ≡ formats (options_in before)
+    pub options : formats (engine_options after) ≡ formats (engine_options before)
     pub path : after.store.set.store ≡ before.store.set.store
     pub store_is : new.store ≡ old.store
     pub format_is : new.format ≡ old.format

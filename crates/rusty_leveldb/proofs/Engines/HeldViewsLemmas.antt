@@ -30,7 +30,7 @@ use Rattle.leveldb_store.specs.Writing.Room.{AreEntriesNotBuilt, HasFailed}
 use Rattle.leveldb_store.specs.Keeping.Written.{HasLiveTables, IsWritten, HasView}
 use Rattle.rusty_leveldb.specs.Engines.Boxes.{EngineOf, InternalOrder}
 use Rattle.rusty_leveldb.specs.Machines.Causes.{Cause, IsCausedBy, CompressorFails, ReachesDevice, ReadsTables, Setting, TakesMemory, WritesTables, block_format, compressor_failed, device_failed, lacks_compressor, out_of_memory, too_large}
-use Rattle.rusty_leveldb.specs.Engines.Engine.{Recalls, ShowsViews, formats_of, options_in, tables_by}
+use Rattle.rusty_leveldb.specs.Engines.Engine.{Recalls, ShowsViews, formats_of, engine_options, tables_by}
 use Rattle.rusty_leveldb.specs.Engines.Serves.{Represents, refusal_of, setting_between, snapshot_of}
 use Rattle.rusty_leveldb.specs.Machines.State as machine
 use Rattle.rusty_leveldb.specs.Machines.State.{Request, Snapshot, State}
@@ -96,7 +96,7 @@ module _ {E C FP F P : Type 0} {B : Boxed} {keys : InternalOrder C} {key_filters
   usable : old.mode ≡ machine.closed → ⊥
   usable = not_closed env formats store meaning before from old was opened
 
-  same : formats (options_in before) ≡ old.format
+  same : formats (engine_options before) ≡ old.format
   same = same_format env formats store meaning before from old was opened
 
   -- names and ids mean what its format says
@@ -187,7 +187,7 @@ module _ {E C FP F P : Type 0} {B : Boxed} {keys : InternalOrder C} {key_filters
     by_device failed = (is.device, failed)
 
     -- no table is built of some pairs
-    not_in_tables : (pairs : List Pair) → IsNotBuilt (choices (options_in before)) pairs status → HasCause
+    not_in_tables : (pairs : List Pair) → IsNotBuilt (choices (engine_options before)) pairs status → HasCause
     not_in_tables pairs not = ⊎_elim (λ memory. (out_of_memory, by_memory memory))
         (λ other. ⊎_elim (λ code. (too_large, (is.writes, code)))
         (λ fails. (
@@ -195,11 +195,11 @@ module _ {E C FP F P : Type 0} {B : Boxed} {keys : InternalOrder C} {key_filters
           subst (λ (f : Option Format). CompressorFails f status.code) (sym is.format)
               (subst (λ (f : Format). HasCompressorError f status.code) same fails),
         )) other)
-        (not_built_causes (choices (options_in before)) pairs status not)
+        (not_built_causes (choices (engine_options before)) pairs status not)
 
     -- or of entries in memory
     entries_not_in_tables : (kept : Option Kept)
-        → AreEntriesNotBuilt (choices (options_in before)) kept status → HasCause
+        → AreEntriesNotBuilt (choices (engine_options before)) kept status → HasCause
     entries_not_in_tables None never = absurd never
     entries_not_in_tables (Some kept) not = not_in_tables (map internal_pair kept.entries) not
 
@@ -214,7 +214,7 @@ module _ {E C FP F P : Type 0} {B : Boxed} {keys : InternalOrder C} {key_filters
     }
 
     pub tables_cause : (left : OpenStoreValue C) → FailsToCompactRange keys env by before.store from
-        before.tables (choices (options_in before)) left status
+        before.tables (choices (engine_options before)) left status
         ⊎ HasFailed (env.failures from) (env.failures to) → HasCause
     tables_cause left (inl (inl (inl memory))) = (out_of_memory, by_memory memory)
     tables_cause left (inl (inl (inr (inl used)))) = (too_large, (is.writes, used.code))

@@ -20,7 +20,7 @@ use Rattle.leveldb_store.specs.Writing.WriteBatch.{HoldsBatches}
 use Rattle.leveldb_store.specs.Keeping.Written.{IsData, SparesRest}
 use Rattle.rusty_leveldb.specs.Engines.Boxes.{EngineOf, InternalOrder}
 use Rattle.rusty_leveldb.specs.Compactions.Compact.{ChangesStore}
-use Rattle.rusty_leveldb.specs.Engines.Engine.{Recalls, options_in, tables_by}
+use Rattle.rusty_leveldb.specs.Engines.Engine.{Recalls, engine_options, tables_by}
 use Rattle.rusty_leveldb.specs.Engines.Frame.{MayTouch, Spares, Touches}
 use Rattle.rusty_leveldb.specs.Machines.Machine.{Risk}
 use Rattle.rusty_leveldb.specs.Engines.Serves.{IsSpared, Represents}
@@ -36,20 +36,20 @@ use Rattle.rusty_leveldb.proofs.Engines.SyncLemmas.{risk_now, spares_data}
 pub store_tells : {E C FP F : Type 0} {B : Boxed} (before after : EngineOf E C FP F B)
     → ChangesStore before after → after.store.cmp ≡ before.store.cmp
     → is_some after.options.log ≡ is_some before.options.log
-    → ChangesLoggerOnly (options_in before) (options_in after)
+    → ChangesLoggerOnly (engine_options before) (engine_options after)
 store_tells {E} {C} {FP} {F} {B = B} before after rest cmp sink = record {
-  rest = ap (λ (e : EngineOf E C FP F B). options_in e) rest
-      ∙ ap (λ (c : C). record (options_in before) { cmp = c; log = after.options.log }) cmp;
+  rest = ap (λ (e : EngineOf E C FP F B). engine_options e) rest
+      ∙ ap (λ (c : C). record (engine_options before) { cmp = c; log = after.options.log }) cmp;
   sink = sink;
 }
 
 -- and what tables are opened with stays
-pub told_by : {E C FP F : Type 0} {B : Boxed} (formats : OptionsOf C FP B → Format)
+pub tables_by_stay : {E C FP F : Type 0} {B : Boxed} (formats : OptionsOf C FP B → Format)
     → ((a b : OptionsOf C FP B) → ChangesLoggerOnly a b → formats b ≡ formats a)
-    → (before after : EngineOf E C FP F B) → ChangesLoggerOnly (options_in before) (options_in after)
+    → (before after : EngineOf E C FP F B) → ChangesLoggerOnly (engine_options before) (engine_options after)
     → tables_by formats after ≡ tables_by formats before
-told_by formats ignores before after tells = λ i. record {
-  format = ignores (options_in before) (options_in after) tells i;
+tables_by_stay formats ignores before after tells = λ i. record {
+  format = ignores (engine_options before) (engine_options after) tells i;
   cmp = (tells.rest i).cmp;
   policy = (tells.rest i).filter_policy;
 }

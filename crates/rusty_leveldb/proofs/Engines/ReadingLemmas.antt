@@ -26,7 +26,7 @@ use Rattle.leveldb_store.specs.Keeping.Written.{IsWritten, HasView}
 use Rattle.rusty_leveldb.specs.Engines.Boxes.{EngineOf, InternalOrder}
 use Rattle.leveldb_base.specs.KeyTypes.{IsLongKey}
 use Rattle.rusty_leveldb.specs.Machines.Causes.{Cause, IsCausedBy, IsNotHeld, Misfits, Setting, bad_operand, device_failed, lacks_compressor, out_of_memory}
-use Rattle.rusty_leveldb.specs.Engines.Engine.{Answers, AnswersStill, GetExcused, GetFails, ReadsAt, Recalls, RefusedAsClosed, ShowsViews, held_in, options_in, scene, tables_by}
+use Rattle.rusty_leveldb.specs.Engines.Engine.{Answers, AnswersStill, GetExcused, GetFails, IsEngineSequence, Recalls, RefusedAsClosed, ShowsViews, held_in, engine_options, scene, tables_by}
 use Rattle.rusty_leveldb.specs.Engines.Frame.{MayTouch}
 use Rattle.rusty_leveldb.specs.Machines.Machine.{IsSequenceOf, Responds, Step, risk_between}
 use Rattle.rusty_leveldb.specs.Engines.Serves.{TakesStep, IsSpared, Reads, Represents, found_or, refusal_of, setting_between}
@@ -134,14 +134,14 @@ module _ {E C FP F : Type 0} {B : Boxed} {keys : InternalOrder C} (env : Ghosts 
 
     -- ---- a look-up
 
-    module _ (sequence : ℕ) (reads : ReadsAt before snapshot sequence) (short : IsLongKey key → ⊥)
+    module _ (sequence : ℕ) (reads : IsEngineSequence before snapshot sequence) (short : IsLongKey key → ⊥)
         (from to : E) (result : Result (Option (List ℕ)) Status)
         (value : OpenStoreValue C) (cache : TableCache E C FP F)
         (looks : LooksUpKey keys env (tables_by formats before) before.store from before.tables sequence
         key result value to cache) where
       -- the engine in the end
       abbrev after : EngineOf E C FP F B
-      after = record before { options = options_in before; store = value; tables = cache }
+      after = record before { options = engine_options before; store = value; tables = cache }
 
       -- of the store nothing changes but the seeks of its files
       pub read_store : value ≡ record before.store { current = value.current }
@@ -160,17 +160,17 @@ module _ {E C FP F : Type 0} {B : Boxed} {keys : InternalOrder C} (env : Ghosts 
         not_closed : old.mode ≡ machine.closed → ⊥
         not_closed is = usable (was.memory_is.mode ∙ is)
 
-        same_format : formats (options_in before) ≡ old.format
+        same_format : formats (engine_options before) ≡ old.format
         same_format = was.memory_is.format not_closed
 
-        agrees : Agrees (formats (options_in before)) meaning
+        agrees : Agrees (formats (engine_options before)) meaning
         agrees = subst (λ (f : Format). Agrees f meaning) (sym same_format)
             (was.disk_is.agrees not_closed)
 
         views : ShowsViews meaning before.store (env.observed from).disk.files old
         views = was.memory_is.shows not_closed
 
-        shows : HasView (formats (options_in before)).order meaning before.store
+        shows : HasView (formats (engine_options before)).order meaning before.store
             (env.observed from).disk.files old.history views.since
         shows = subst (λ (f : Format). HasView f.order meaning before.store
             (env.observed from).disk.files old.history views.since) (sym same_format) views.shows
@@ -194,7 +194,7 @@ module _ {E C FP F : Type 0} {B : Boxed} {keys : InternalOrder C} (env : Ghosts 
         held_is = (was.memory_is.snapshots not_closed).held
 
         -- it is the number of the request, from which on the history is shown
-        reads_in : (at : Option Snapshot) → ReadsAt before at sequence
+        reads_in : (at : Option Snapshot) → IsEngineSequence before at sequence
             → IsSequenceOf old at sequence × (IsNotHeld old.held at → ⊥) × (views.since ≤ sequence)
         reads_in None is = (
           is ∙ last_is,
@@ -231,7 +231,7 @@ module _ {E C FP F : Type 0} {B : Boxed} {keys : InternalOrder C} (env : Ghosts 
         )
 
         lacks : FailsForWhy env (λ status. (status.code ≡ NotSupported)
-            × LacksCompressor (formats (options_in before)) meaning) from to result
+            × LacksCompressor (formats (engine_options before)) meaning) from to result
         lacks = looks.lacks meaning shows.tables (record {
           agrees = agrees;
           has_open = has_open;
@@ -242,7 +242,7 @@ module _ {E C FP F : Type 0} {B : Boxed} {keys : InternalOrder C} (env : Ghosts 
         cause_of : (status : Status)
             → (IsOutOfMemory status ⊎ ((env.failures to ≡ env.failures from)
             × ((status.code ≡ NotSupported)
-            × LacksCompressor (formats (options_in before)) meaning)))
+            × LacksCompressor (formats (engine_options before)) meaning)))
             ⊎ ((env.failures to ≡ env.failures from + 1)
             ⊎ ((env.failures from ≡ 2 ^ 64 - 1) × (env.failures to ≡ env.failures from)))
             → (cause : Cause) × IsCausedBy setting old (get snapshot key) (refusal_of status) cause
@@ -337,7 +337,7 @@ module _ {E C FP F : Type 0} {B : Boxed} {keys : InternalOrder C} (env : Ghosts 
               let why = cause_of store meaning modelled old was status
               (subst (λ r. IfErr r (λ e. (IsOutOfMemory e ⊎ ((env.failures to ≡ env.failures from)
               × ((e.code ≡ NotSupported)
-              × LacksCompressor (formats (options_in before)) meaning)))
+              × LacksCompressor (formats (engine_options before)) meaning)))
               ⊎ ((env.failures to ≡ env.failures from + 1)
               ⊎ ((env.failures from ≡ 2 ^ 64 - 1) × (env.failures to ≡ env.failures from))))) e
               (lacks store meaning modelled old was).cause) in
@@ -364,7 +364,7 @@ module _ {E C FP F : Type 0} {B : Boxed} {keys : InternalOrder C} (env : Ghosts 
 
       pub get_cause : GetFails keys env formats before from snapshot key result to
       get_cause = record {
-        cause = fails_by (λ e. IsTableFault (formats (options_in before)) e.code) looks.reads.cause;
+        cause = fails_by (λ e. IsTableFault (formats (engine_options before)) e.code) looks.reads.cause;
         lacks = λ meaning live there. fails_by (λ e. (e.code ≡ NotSupported)
-            × LacksCompressor (formats (options_in before)) meaning) (looks.lacks meaning live there);
+            × LacksCompressor (formats (engine_options before)) meaning) (looks.lacks meaning live there);
       }

@@ -28,7 +28,7 @@ use Rattle.leveldb_store.specs.Writing.WriteBatch.{WritesBatch}
 use Rattle.leveldb_store.specs.Keeping.Written.{IsData, KeepsGivenTables, SparesRest}
 use Rattle.rusty_leveldb.specs.Engines.Boxes.{EngineOf, InternalOrder}
 use Rattle.rusty_leveldb.specs.Engines.Calls.{IsLockLeft, LeavesRest, SparesBut, held_after}
-use Rattle.rusty_leveldb.specs.Engines.Engine.{holds_lock, options_in}
+use Rattle.rusty_leveldb.specs.Engines.Engine.{holds_lock, engine_options}
 use Rattle.rusty_leveldb.specs.Engines.Room.{EngineMakesRoom}
 use Rattle.rusty_leveldb.specs.Engines.Frame.{IsSyncing, MayTouchOrLog, SameBytes, Spares, Touches}
 use Rattle.rusty_leveldb.specs.Machines.State as machine
@@ -346,7 +346,7 @@ module _ {E C FP F : Type 0} {B : Boxed} (env : Ghosts E F)
       module _ (roomy : EngineOf E C FP F B) (mid : E)
           (made : EngineMakesRoom env choices before from (Ok tt) roomy mid)
           (value : OpenStoreValue C) (mode : machine.Mode) (to : E)
-          (result : Result (Unit {0}) Status) (writes : WritesBatch env (choices (options_in roomy)).format.order roomy.store mid items sync
+          (result : Result (Unit {0}) Status) (writes : WritesBatch env (choices (engine_options roomy)).format.order roomy.store mid items sync
           result value to) where
         batch_log : open_log_path value ≡ open_log_path roomy.store
         batch_log = ap (λ (v : OpenStoreValue C). open_log_path v) writes.rest

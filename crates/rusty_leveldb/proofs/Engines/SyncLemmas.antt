@@ -31,7 +31,7 @@ use Rattle.leveldb_store.specs.Writing.WriteBatch.{HoldsBatches, IsOf, LeavesHis
 use Rattle.leveldb_store.specs.Keeping.Written.{IsData, IsWritten, HasView}
 use Rattle.rusty_leveldb.specs.Engines.Boxes.{EngineOf, InternalOrder}
 use Rattle.rusty_leveldb.specs.Machines.Causes.{Cause, IsCausedBy, ReachesDevice, Setting, TakesMemory, device_failed, out_of_memory}
-use Rattle.rusty_leveldb.specs.Engines.Engine.{HasOwnTables, Recalls, options_in, scene, tables_by}
+use Rattle.rusty_leveldb.specs.Engines.Engine.{HasOwnTables, Recalls, engine_options, scene, tables_by}
 use Rattle.rusty_leveldb.specs.Engines.Frame.{IsLogType, MayTouch, SameBytes, Spares, Touches}
 use Rattle.rusty_leveldb.specs.Machines.Machine.{Breaks, LeavesRefused, MayBreak, Refuses, Responds, Risk, Step, risk_of}
 use Rattle.rusty_leveldb.specs.Engines.Serves.{TakesStep, IsSpared, Represents, refusal_of, setting_between}
@@ -182,7 +182,7 @@ module _ {E C FP F : Type 0} {B : Boxed} {keys : InternalOrder C} (env : Ghosts 
 
   module _ (value : OpenStoreValue C) (mid : E) (modelled : IsTrue env.models_disk)
       (syncs : SyncsLog env before.store from (Ok tt) value mid)
-      (batches : SyncsBatches env (formats (options_in before)).order before.store from (Ok tt) value
+      (batches : SyncsBatches env (formats (engine_options before)).order before.store from (Ok tt) value
       mid) where
     -- all is durable
     pub durable : MakesDurable old.format.order meaning (Stays old) before.store (env.observed from)
@@ -325,9 +325,9 @@ module _ {E C FP F : Type 0} {B : Boxed} {keys : InternalOrder C} (env : Ghosts 
 
   module _ (value : OpenStoreValue C) (mid : E) (status : Status) (modelled : IsTrue env.models_disk)
       (syncs : SyncsLog env before.store from (Err status) value mid)
-      (batches : SyncsBatches env (formats (options_in before)).order before.store from (Err status)
+      (batches : SyncsBatches env (formats (engine_options before)).order before.store from (Err status)
       value mid)
-      (sound : IsSoundCall {T = Unit {0}} env (formats (options_in before)).order any_meaning before.store from
+      (sound : IsSoundCall {T = Unit {0}} env (formats (engine_options before)).order any_meaning before.store from
       (Err status) value mid) where
     left : LeavesHistory old.format.order meaning (Stays old) before.store (env.observed from)
         old.history old.durable None value (env.observed mid)

@@ -22,15 +22,15 @@ use Rattle.leveldb_store.specs.Writing.WriteBatch.{FailsToWriteBatch, WritesBatc
 use Rattle.rusty_leveldb.specs.Engines.Boxes.{EngineOf, InternalOrder}
 use Rattle.rusty_leveldb.specs.Engines.EngineValue.{FollowsStore}
 use Rattle.rusty_leveldb.specs.Engines.Room.{EngineMakesRoom, LogsRoom, KeepsOrCompacts, entries_added}
-use Rattle.rusty_leveldb.specs.Engines.Calls.{AppendsNothing, EngineWrites, IsMemtableFull, KeepsMemory, KeepsModeOrBreaks, OneWaitsAtMost, WritesIntoRoom}
+use Rattle.rusty_leveldb.specs.Engines.Calls.{AppendsNothing, EngineWrites, IsMemtableFull, KeepsMemory, KeepsModeOrBreaks, MakesNoImm, WritesIntoRoom}
 use Rattle.rusty_leveldb.specs.Machines.Causes.{AreUsedUp, IsLongBatch}
-use Rattle.rusty_leveldb.specs.Engines.Engine.{empty_memtable, Answers, IsBroken, WriteExcused, options_in, formats_of, tables_by}
+use Rattle.rusty_leveldb.specs.Engines.Engine.{empty_memtable, Answers, IsBroken, WriteExcused, engine_options, formats_of, tables_by}
 use Rattle.rusty_leveldb.specs.Engines.Serves.{done_or}
 use Rattle.rusty_leveldb.specs.Machines.State as machine
 use Rattle.rusty_leveldb.specs.Machines.State.{write}
 use Rattle.rusty_leveldb.proofs.Engines.Batching.{IsUnmade, not_written}
 use Rattle.rusty_leveldb.proofs.Engines.EngineLemmas.{follows_broken, follows_open}
-use Rattle.rusty_leveldb.proofs.Engines.CallsLemmas.{not_halted}
+use Rattle.rusty_leveldb.proofs.Engines.CallsLemmas.{open_is_neither}
 use Rattle.rusty_leveldb.proofs.Engines.KeepsOrCompactsLemmas.{kept_beside_batch, kept_as_they_are}
 use Rattle.rusty_leveldb.proofs.Engines.RestLemmas.{rest_roomless, rest_still, rest_written}
 use Rattle.rusty_leveldb.proofs.Engines.RowLemmas.{write_row}
@@ -99,7 +99,7 @@ module _ {E C FP F P : Type 0} {B : Boxed} {keys : InternalOrder C} {key_filters
         ok = row.0;
         err = row.1;
         step = step;
-        refused_by_mode = λ refused_by_mode. absurd (not_halted before.mode opened refused_by_mode);
+        refused_by_mode = λ refused_by_mode. absurd (open_is_neither before.mode opened refused_by_mode);
         misfit = λ is long. (
           refl,
           refl,
@@ -110,7 +110,7 @@ module _ {E C FP F P : Type 0} {B : Boxed} {keys : InternalOrder C} {key_filters
         waits = tt;
         logs = tt;
         failed = (inr refl, (refl, λ room. (refl, refl)));
-        entries = kept_as_they_are env (formats (options_in before)) before.store from;
+        entries = kept_as_they_are env (formats (engine_options before)) before.store from;
         breaks = inr (inl refl);
         snapshots = refl;
         options = record { rest = refl; sink = refl };
@@ -144,7 +144,7 @@ module _ {E C FP F P : Type 0} {B : Boxed} {keys : InternalOrder C} {key_filters
           ok = row.0;
           err = row.1;
           step = step;
-          refused_by_mode = λ refused_by_mode. absurd (not_halted before.mode opened refused_by_mode);
+          refused_by_mode = λ refused_by_mode. absurd (open_is_neither before.mode opened refused_by_mode);
           misfit = λ is long. absurd (fits long);
           written = tt;
           waits = tt;
@@ -182,7 +182,7 @@ module _ {E C FP F P : Type 0} {B : Boxed} {keys : InternalOrder C} {key_filters
             (full_or_not before.options.write_buffer_size before.store.mem)
 
         excused : FailsToCompactRange keys env (tables_by formats before) before.store from
-            before.tables (choices (options_in before)) after.store status
+            before.tables (choices (engine_options before)) after.store status
             ⊎ HasFailed (env.failures from) (env.failures to)
             → WriteExcused env choices before from items after.store status
             ⊎ HasFailed (env.failures from) (env.failures to)
@@ -199,7 +199,7 @@ module _ {E C FP F P : Type 0} {B : Boxed} {keys : InternalOrder C} {key_filters
 
       -- a batch is written into a memtable with room
       batch_written : (result : Result (Unit {0}) Status)
-          → WritesBatch env (formats (options_in roomy)).order roomy.store mid items sync result value
+          → WritesBatch env (formats (engine_options roomy)).order roomy.store mid items sync result value
           to → OnOk result ((mode ≡ before.mode) × WritesIntoRoom before items ended)
       batch_written (Ok nothing) writes = (
         follows_open mode value follows writes.usable ∙ sym opened,
@@ -228,8 +228,8 @@ module _ {E C FP F P : Type 0} {B : Boxed} {keys : InternalOrder C} {key_filters
 
       -- and none waits, but for one that waited before
       batch_waits : (result : Result (Unit {0}) Status)
-          → WritesBatch env (formats (options_in roomy)).order roomy.store mid items sync result value
-          to → OnOk result (OneWaitsAtMost before ended)
+          → WritesBatch env (formats (engine_options roomy)).order roomy.store mid items sync result value
+          to → OnOk result (MakesNoImm before ended)
       batch_waits (Ok nothing) writes =
           let waits = ap (λ (v : OpenStoreValue C). v.imm) writes.rest in ⊎_elim
           (λ (full : IsFull before.options.write_buffer_size before.store.mem).
@@ -241,21 +241,21 @@ module _ {E C FP F P : Type 0} {B : Boxed} {keys : InternalOrder C} {key_filters
 
       -- and what was logged is what room in the memtable logged
       batch_logs : (result : Result (Unit {0}) Status)
-          → WritesBatch env (formats (options_in roomy)).order roomy.store mid items sync result value
+          → WritesBatch env (formats (engine_options roomy)).order roomy.store mid items sync result value
           to → OnOk result (IsMemtableFull before
-          → LogsRoom (formats (options_in before)).order before.store.set
+          → LogsRoom (formats (engine_options before)).order before.store.set
           (record value.set { last_sequence = before.store.set.last_sequence }))
       batch_logs (Ok nothing) writes = λ full.
           let same = ap (λ (v : OpenStoreValue C).
           record v.set { last_sequence = before.store.set.last_sequence }) writes.rest
           ∙ ap (λ n. record roomy.store.set { last_sequence = n }) (sym made.makes.keeps.rest.last) in
-          subst (LogsRoom (formats (options_in before)).order before.store.set) (sym same)
+          subst (LogsRoom (formats (engine_options before)).order before.store.set) (sym same)
           (made.makes.logs full)
       batch_logs (Err status) writes = tt
 
       -- or it isn't written, and no answer changes
       batch_failed : (result : Result (Unit {0}) Status)
-          → WritesBatch env (formats (options_in roomy)).order roomy.store mid items sync result value
+          → WritesBatch env (formats (engine_options roomy)).order roomy.store mid items sync result value
           to → OnErr result (KeepsModeOrBreaks before ended × KeepsMemory before ended)
       batch_failed (Ok nothing) writes = tt
       batch_failed (Err status) writes = (
@@ -272,7 +272,7 @@ module _ {E C FP F P : Type 0} {B : Boxed} {keys : InternalOrder C} {key_filters
 
       -- then no call was made, or the log is broken
       batch_breaks : (result : Result (Unit {0}) Status)
-          → WritesBatch env (formats (options_in roomy)).order roomy.store mid items sync result value
+          → WritesBatch env (formats (engine_options roomy)).order roomy.store mid items sync result value
           to → OnErr result (IsBroken mode ⊎ AppendsNothing env choices before from to)
       batch_breaks (Ok nothing) writes = tt
       batch_breaks (Err status) writes = ⊎_elim
@@ -286,14 +286,14 @@ module _ {E C FP F P : Type 0} {B : Boxed} {keys : InternalOrder C} {key_filters
 
       -- where the entries are
       batch_entries : (result : Result (Unit {0}) Status)
-          → WritesBatch env (formats (options_in roomy)).order roomy.store mid items sync result value
-          to → KeepsOrCompacts env (formats (options_in before))
+          → WritesBatch env (formats (engine_options roomy)).order roomy.store mid items sync result value
+          to → KeepsOrCompacts env (formats (engine_options before))
           (entries_added result (next_batch before.store items)) before.store from value to
-      batch_entries result writes = subst (λ k. KeepsOrCompacts env (formats (options_in before))
+      batch_entries result writes = subst (λ k. KeepsOrCompacts env (formats (engine_options before))
           (entries_added result (placed (k + 1) items)) before.store from value to)
           made.makes.keeps.rest.last
-          (kept_beside_batch env (formats (options_in before)) before.store from roomy.store mid
-          made.makes.keeps.rest.store made.makes.entries (formats (options_in roomy)).order items
+          (kept_beside_batch env (formats (engine_options before)) before.store from roomy.store mid
+          made.makes.keeps.rest.store made.makes.entries (formats (engine_options roomy)).order items
           sync result value to writes)
 
       -- the memtable that room was made in is empty
@@ -309,7 +309,7 @@ module _ {E C FP F P : Type 0} {B : Boxed} {keys : InternalOrder C} {key_filters
 
       -- why the batch isn't written
       batch_excused : (status : Status)
-          → FailsToWriteBatch env (formats (options_in before)).order roomy.store mid items to status
+          → FailsToWriteBatch env (formats (engine_options before)).order roomy.store mid items to status
           → WriteExcused env choices before from items value status
       batch_excused status (inl (inl used, still)) = inr (inr (inr (inl (
         used.code,
@@ -333,7 +333,7 @@ module _ {E C FP F P : Type 0} {B : Boxed} {keys : InternalOrder C} {key_filters
               lacks = λ meaning live has.
                   let kept = made.makes.keeps.keeps has.has_open meaning has.agrees (λ it. true)
                   has.written in
-                  absurd (log_is_there (formats (options_in before)).order meaning roomy.store
+                  absurd (log_is_there (formats (engine_options before)).order meaning roomy.store
                   (env.observed mid).disk.files (kept.written made.makes.keeps.usable)
                   (missing.1 has.has_open.modelled));
             }))))),
@@ -343,11 +343,11 @@ module _ {E C FP F P : Type 0} {B : Boxed} {keys : InternalOrder C} {key_filters
           inr (inr (inr (inr (inr (inr (
             missing.0.code,
             λ modelled meaning agrees written.
-                log_is_there (formats (options_in before)).order meaning roomy.store
+                log_is_there (formats (engine_options before)).order meaning roomy.store
                 (env.observed mid).disk.files
-                (subst (λ (v : OpenStoreValue C). IsWritten (formats (options_in before)).order
+                (subst (λ (v : OpenStoreValue C). IsWritten (formats (engine_options before)).order
                 meaning v (env.observed mid).disk.files) (sym still.0)
-                (subst (λ (e : E). IsWritten (formats (options_in before)).order meaning
+                (subst (λ (e : E). IsWritten (formats (engine_options before)).order meaning
                 before.store (env.observed e).disk.files) (sym still.1) written))
                 (missing.1 modelled),
           )))))))
@@ -356,7 +356,7 @@ module _ {E C FP F P : Type 0} {B : Boxed} {keys : InternalOrder C} {key_filters
           ∙ made.makes.keeps.usable.log in cc)
 
       batch_cause : (result : Result (Unit {0}) Status)
-          → WritesBatch env (formats (options_in before)).order roomy.store mid items sync result value
+          → WritesBatch env (formats (engine_options before)).order roomy.store mid items sync result value
           to → FailsFor (WriteExcused env choices before from items value) (env.failures from)
           (env.failures to) result
       batch_cause (Ok nothing) writes = record {
@@ -366,7 +366,7 @@ module _ {E C FP F P : Type 0} {B : Boxed} {keys : InternalOrder C} {key_filters
       batch_cause (Err status) writes = record {
         later = omega (arith, made.makes.keeps.cause.later, writes.cause.later);
         cause = ⊎_elim
-            (λ (why : FailsToWriteBatch env (formats (options_in before)).order roomy.store mid items to
+            (λ (why : FailsToWriteBatch env (formats (engine_options before)).order roomy.store mid items to
             status). inl (batch_excused status why))
             (λ counted. inr (failed_later (env.failures from) (env.failures mid) (env.failures to)
             made.makes.keeps.cause.later writes.cause.later (⊎_elim
@@ -376,8 +376,8 @@ module _ {E C FP F P : Type 0} {B : Boxed} {keys : InternalOrder C} {key_filters
 
       step : (result : Result (Unit {0}) Status)
           → OnOk result (length (batch_bytes 0 items) ≤ max_length)
-          → WritesBatch env (formats (options_in before)).order roomy.store mid items sync result value
-          to → IsSoundCall {T = Unit {0}} env (formats (options_in before)).order any_meaning
+          → WritesBatch env (formats (engine_options before)).order roomy.store mid items sync result value
+          to → IsSoundCall {T = Unit {0}} env (formats (engine_options before)).order any_meaning
           roomy.store mid result value to
           → Answers keys env formats (Some before) from (write items sync) (done_or result)
           (Some (record roomy { store = value; mode = mode })) to
@@ -388,15 +388,15 @@ module _ {E C FP F P : Type 0} {B : Boxed} {keys : InternalOrder C} {key_filters
           write_fails env choices store meaning before from old was opened modelled ignores roomy mid
           made items sync value mode follows to status writes sound
 
-      same_format : formats (options_in roomy) ≡ formats (options_in before)
-      same_format = ignores (options_in before) (options_in roomy)
+      same_format : formats (engine_options roomy) ≡ formats (engine_options before)
+      same_format = ignores (engine_options before) (engine_options roomy)
           (room_tells env choices before from (Ok tt) roomy mid made)
 
       -- the batch is written, or isn't
       pub batch_serves : (result : Result (Unit {0}) Status)
           → OnOk result (length (batch_bytes 0 items) ≤ max_length)
-          → WritesBatch env (formats (options_in roomy)).order roomy.store mid items sync result value
-          to → IsSoundCall {T = Unit {0}} env (formats (options_in roomy)).order any_meaning
+          → WritesBatch env (formats (engine_options roomy)).order roomy.store mid items sync result value
+          to → IsSoundCall {T = Unit {0}} env (formats (engine_options roomy)).order any_meaning
           roomy.store mid result value to
           → EngineWrites env choices before from items sync result ended to
       batch_serves result short writes_in sound_in =
@@ -410,7 +410,7 @@ module _ {E C FP F P : Type 0} {B : Boxed} {keys : InternalOrder C} {key_filters
             ok = row.0;
             err = row.1;
             step = stepped;
-            refused_by_mode = λ refused_by_mode. absurd (not_halted before.mode opened refused_by_mode);
+            refused_by_mode = λ refused_by_mode. absurd (open_is_neither before.mode opened refused_by_mode);
             misfit = λ is long. absurd (fits long);
             written = batch_written result writes_in;
             waits = batch_waits result writes_in;

@@ -35,7 +35,7 @@ use Rattle.rusty_leveldb.specs.Engines.Boxes.{EngineOf, InternalOrder}
 use Rattle.rusty_leveldb.specs.Engines.Room.{EngineMakesRoom}
 use Rattle.rusty_leveldb.specs.Engines.EngineValue.{FollowsStore}
 use Rattle.rusty_leveldb.specs.Machines.Causes.{Cause, IsCausedBy, Fits, Setting, device_failed, out_of_memory, too_large, used_up}
-use Rattle.rusty_leveldb.specs.Engines.Engine.{HasOwnTables, Recalls, ShowsViews, options_in, scene, formats_of, tables_by}
+use Rattle.rusty_leveldb.specs.Engines.Engine.{HasOwnTables, Recalls, ShowsViews, engine_options, scene, formats_of, tables_by}
 use Rattle.rusty_leveldb.specs.Engines.Frame.{MayTouch, Spares}
 use Rattle.rusty_leveldb.specs.Machines.Machine.{Breaks, Refuses, Risk, Step, Writes, added_batch, risk_between}
 use Rattle.rusty_leveldb.specs.Engines.Serves.{TakesStep, IsSpared, Represents, refusal_of, setting_between}
@@ -43,7 +43,7 @@ use Rattle.rusty_leveldb.specs.Machines.State as machine
 use Rattle.rusty_leveldb.specs.Machines.State.{State, done, open_mode, refused, write}
 use Rattle.rusty_leveldb.proofs.Engines.EngineLemmas.{SameSnapshots, Stays, follows_open, goes, is_of, machine_spares, none, not_closed, same_format, state_open, views_still, views_then}
 use Rattle.rusty_leveldb.proofs.Engines.HeldViewsLemmas.{MakesTables, agrees_by, by_device, by_memory, has_open, tables_cause, views_held, written_by}
-use Rattle.rusty_leveldb.proofs.Engines.KeptLemmas.{kept_holds, kept_last, kept_path, kept_run, kept_spares, spared_first, store_tells, told_by}
+use Rattle.rusty_leveldb.proofs.Engines.KeptLemmas.{kept_holds, kept_last, kept_path, kept_run, kept_spares, spared_first, store_tells, tables_by_stay}
 use Rattle.rusty_leveldb.proofs.Engines.Moments.{grows_by, spared_more}
 use Rattle.rusty_leveldb.proofs.Engines.ReadsLemmas.{may_stay}
 use Rattle.rusty_leveldb.proofs.Engines.SyncLemmas.{log_is_own, log_is_there, risk_now, spares_data}
@@ -72,7 +72,7 @@ pub room_tells : {E C FP F P : Type 0} {B : Boxed} {keys : InternalOrder C}
     (choices : OptionsOf C FP B → TableChoices keys key_filters) (before : EngineOf E C FP F B)
     (from : E) (result : Result (Unit {0}) Status) (after : EngineOf E C FP F B) (to : E)
     → EngineMakesRoom env choices before from result after to
-    → ChangesLoggerOnly (options_in before) (options_in after)
+    → ChangesLoggerOnly (engine_options before) (engine_options after)
 room_tells env choices before from result after to made =
     store_tells before after made.rest made.makes.keeps.rest.cmp made.sink
 
@@ -85,7 +85,7 @@ pub room_by : {E C FP F P : Type 0} {B : Boxed} {keys : InternalOrder C}
     → EngineMakesRoom env choices before from result after to
     → tables_by (formats_of choices) after ≡ tables_by (formats_of choices) before
 room_by env choices before from result after to ignores made =
-    told_by (formats_of choices) ignores before after
+    tables_by_stay (formats_of choices) ignores before after
     (room_tells env choices before from result after to made)
 
 -- and so the open tables are those of the store
@@ -110,7 +110,7 @@ pub batch_tells : {E C FP F P : Type 0} {B : Boxed} {keys : InternalOrder C}
     (from : E) (roomy : EngineOf E C FP F B)
     (mid : E) → EngineMakesRoom env choices before from (Ok tt) roomy mid
     → (value : OpenStoreValue C) → value.cmp ≡ roomy.store.cmp
-    → ChangesLoggerOnly (options_in before) (options_in {E = E} {C = C} {FP = FP} {F = F} {B = B}
+    → ChangesLoggerOnly (engine_options before) (engine_options {E = E} {C = C} {FP = FP} {F = F} {B = B}
     (record roomy { store = value }))
 batch_tells {C = C} env choices before from roomy mid made value same =
     let tells = room_tells env choices before from (Ok tt) roomy mid made in
@@ -196,7 +196,7 @@ module _ {E C FP F P : Type 0} {B : Boxed} {keys : InternalOrder C} {key_filters
     -- why no room is made
     room_cause : (left : OpenStoreValue C)
         → FailsToCompactRange keys env (tables_by formats before) before.store from before.tables
-        (choices (options_in before)) left status ⊎ HasFailed (env.failures from) (env.failures to)
+        (choices (engine_options before)) left status ⊎ HasFailed (env.failures from) (env.failures to)
         → HasCause
     room_cause = tables_cause env choices store meaning before from old was opened modelled
         (write items sync) makes_tables to status
@@ -251,8 +251,8 @@ module _ {E C FP F P : Type 0} {B : Boxed} {keys : InternalOrder C} {key_filters
         (agrees_by env choices store meaning before from old was opened modelled)))
         (may_stay None old.store) held.written
 
-    room_options : formats (options_in roomy) ≡ formats (options_in before)
-    room_options = ignores (options_in before) (options_in roomy)
+    room_options : formats (engine_options roomy) ≡ formats (engine_options before)
+    room_options = ignores (engine_options before) (engine_options roomy)
         (room_tells env choices before from result roomy mid made)
 
     room_bytes : AppendedAreBytes (env.observed mid).disk.files
@@ -397,22 +397,22 @@ module _ {E C FP F P : Type 0} {B : Boxed} {keys : InternalOrder C} {key_filters
     same_batch = ap (λ n. placed (n + 1) items) room_last
 
     in_order : (result : Result (Unit {0}) Status)
-        → WritesBatch env (formats (options_in before)).order roomy.store mid items sync result value to
+        → WritesBatch env (formats (engine_options before)).order roomy.store mid items sync result value to
         → WritesBatch env order roomy.store mid items sync result value to
     in_order result writes = subst (λ (f : Format).
         WritesBatch env f.order roomy.store mid items sync result value to)
         (same_format env formats store meaning before from old was opened) writes
 
     module _ (result : Result (Unit {0}) Status)
-        (writes : WritesBatch env (formats (options_in before)).order roomy.store mid items sync result
+        (writes : WritesBatch env (formats (engine_options before)).order roomy.store mid items sync result
         value to)
-        (sound : IsSoundCall {T = Unit {0}} env (formats (options_in before)).order any_meaning
+        (sound : IsSoundCall {T = Unit {0}} env (formats (engine_options before)).order any_meaning
         roomy.store mid result value to) where
       end_path : value.set.store ≡ before.store.set.store
       end_path = ap (λ (v : OpenStoreValue C). v.set.store) writes.rest ∙ made.makes.keeps.rest.store
 
-      end_options : formats (options_in after) ≡ formats (options_in before)
-      end_options = ignores (options_in before) (options_in after)
+      end_options : formats (engine_options after) ≡ formats (engine_options before)
+      end_options = ignores (engine_options before) (engine_options after)
           (batch_tells env choices before from roomy mid made value
           (ap (λ (v : OpenStoreValue C). v.cmp) writes.rest))
 
@@ -423,7 +423,7 @@ module _ {E C FP F P : Type 0} {B : Boxed} {keys : InternalOrder C} {key_filters
           in
           subst (λ (c : C). AreOpenTablesOf keys env (by c) value.set (env.observed to).disk.files
           roomy.tables) (sym (ap (λ (v : OpenStoreValue C). v.cmp) writes.rest))
-          (open_after_batch env (by roomy.store.cmp) (formats (options_in before)).order roomy.store
+          (open_after_batch env (by roomy.store.cmp) (formats (engine_options before)).order roomy.store
           value mid to items sync result writes modelled roomy.tables
           (room_tables env choices before from (Ok tt) roomy mid ignores made tables_open))
 
@@ -472,9 +472,9 @@ module _ {E C FP F P : Type 0} {B : Boxed} {keys : InternalOrder C} {key_filters
     -- ---- it is written
 
     module _ (short : length (batch_bytes 0 items) ≤ max_length)
-        (writes : WritesBatch env (formats (options_in before)).order roomy.store mid items sync (Ok tt)
+        (writes : WritesBatch env (formats (engine_options before)).order roomy.store mid items sync (Ok tt)
         value to)
-        (sound : IsSoundCall {T = Unit {0}} env (formats (options_in before)).order any_meaning
+        (sound : IsSoundCall {T = Unit {0}} env (formats (engine_options before)).order any_meaning
         roomy.store mid (Ok tt) value to) where
       adds : AddsBatch order meaning (Stays old) roomy.store (env.observed mid) old.history old.durable
           its_batch sync value (env.observed to)
@@ -581,9 +581,9 @@ module _ {E C FP F P : Type 0} {B : Boxed} {keys : InternalOrder C} {key_filters
     -- ---- it isn't written
 
     module _ (status : Status)
-        (writes : WritesBatch env (formats (options_in before)).order roomy.store mid items sync
+        (writes : WritesBatch env (formats (engine_options before)).order roomy.store mid items sync
         (Err status) value to)
-        (sound : IsSoundCall {T = Unit {0}} env (formats (options_in before)).order any_meaning
+        (sound : IsSoundCall {T = Unit {0}} env (formats (engine_options before)).order any_meaning
         roomy.store mid (Err status) value to) where
       leaves : (pending : Option (List Entry))
           × ((pending ≡ None) ⊎ (pending ≡ Some its_batch))
@@ -612,7 +612,7 @@ module _ {E C FP F P : Type 0} {B : Boxed} {keys : InternalOrder C} {key_filters
           (subst (λ (g : Format). IsWritten g.order meaning roomy.store here)
           (sym (same_format env formats store meaning before from old was opened)) room_written))
 
-      batch_cause : FailsToWriteBatch env (formats (options_in before)).order roomy.store mid items to status
+      batch_cause : FailsToWriteBatch env (formats (engine_options before)).order roomy.store mid items to status
           ⊎ ((env.failures to ≡ env.failures mid + 1)
           ⊎ ((env.failures mid ≡ 2 ^ 64 - 1) × (env.failures to ≡ env.failures mid)))
           → HasCause items sync status to

@@ -11,8 +11,8 @@ use Rattle.leveldb_files.specs.Stores.Format.{Format, Meaning}
 use Rattle.rusty_leveldb.specs.Machines.State.{Mode, open_mode, broken, closed, State, IsState, Request, write, get, flush, close, Answer, done, found}
 use Rattle.rusty_leveldb.specs.Machines.Causes.{Setting}
 use Rattle.rusty_leveldb.specs.Machines.Machine.{Gets, Step}
-use Rattle.rusty_leveldb.specs.Machines.Runs.{Event, setting_of, Run, CrashBefore, last_moment, StopsAt, Ending, goes_on, crashes, Life, Lives, new_state}
-use Rattle.rusty_leveldb.specs.Machines.Laws.{LivesFit, MakesDurable, DurableStays, SyncedStays, IsInTime, EachAnswerParts, items_of, batches_of, IsSubsequence, asked_in, HistoryIsAsked, HistoryIsPlaced, MoreIsAsked, NoneHasKey, SyncedIsRead}
+use Rattle.rusty_leveldb.specs.Machines.Runs.{Event, setting_of, RunsEvents, CrashBefore, last_moment, StopsAt, Ending, goes_on, crashes, Life, Lives, new_state}
+use Rattle.rusty_leveldb.specs.Machines.Laws.{LivesFit, IsDoneSync, DurableStays, SyncedStays, IsInTime, EachAnswerParts, items_of, batches_of, IsSubsequence, asked_in, HistoryIsAsked, HistoryIsPlaced, MoreIsAsked, NoneHasKey, SyncedIsRead}
 use Rattle.leveldb_files.proofs.Histories.NumbersLemmas.{up_to, up_to_greatest, entries_more}
 use Rattle.rusty_leveldb.proofs.Machines.MachineLemmas.{before_pending, none_pending, step_fits}
 use Rattle.rusty_leveldb.proofs.Machines.RunsLemmas.{Since, all_front, since_lives, some_all, some_front, without}
@@ -49,7 +49,7 @@ durable_stays meaning lives before after old last is leads =
 module _ (setting : Setting) (old new : State)
     (is : IsState old) where
   durable_in : (mode : Mode) (request : Request) (answer : Answer) → old.mode ≡ mode
-      → MakesDurable request answer → Step mode setting old request answer new
+      → IsDoneSync request answer → Step mode setting old request answer new
       → (new.durable ≡ length new.history) × (new.pending ≡ None)
   durable_in open_mode (write items sync) done m by s =
       (s.1.synced by, ap (λ (s : State). s.pending) s.1.state ∙ none_pending old is m)
@@ -75,7 +75,7 @@ module _ (setting : Setting) (old new : State)
 
   -- what is done so is a new beginning
   since_done : (request : Request) (answer : Answer) → Step old.mode setting old request answer new
-      → MakesDurable request answer → Since (Unit {0}) new.history [] new
+      → IsDoneSync request answer → Since (Unit {0}) new.history [] new
   since_done request answer step by =
       let now = durable_in old.mode request answer refl by step in
       record {
@@ -163,9 +163,9 @@ history_is_placed meaning format lives after last leads =
 
 -- a run that goes on from another
 run_part : (meaning : Meaning) (answered undone : List Event) (before after : ℕ) (old last : State)
-    → Run meaning before old (answered ++ undone) after last
-    → (failures : ℕ) × (state : State) × Run meaning before old answered failures state
-    × Run meaning failures state undone after last
+    → RunsEvents meaning before old (answered ++ undone) after last
+    → (failures : ℕ) × (state : State) × RunsEvents meaning before old answered failures state
+    × RunsEvents meaning failures state undone after last
 run_part meaning [] undone before after old last run = (before, old, (refl, refl), run)
 run_part meaning (one ∷ answered) undone before after old last run =
     let rest = run_part meaning answered undone one.failures after run.1 last run.3 in
@@ -239,7 +239,7 @@ module _ (meaning : Meaning) (later : List Life) (start : ℕ) (answered undone 
       let cut = cut_after moment answered undone stops.done stops.undone one in_time stops.split
       stops.not_yet in
       let run = run_part meaning answered (one ∷ cut.0) before stops.failures old stops.state (subst
-      (λ xs. Run meaning before old xs stops.failures stops.state) cut.1 stops.run) in
+      (λ xs. RunsEvents meaning before old xs stops.failures stops.state) cut.1 stops.run) in
       let stops_then : StopsAt meaning one.moment one.failures run.3.1 undone moment inside leads.2.0.0
       leads.2.0.1 leads.1 = record {
         done = cut.0;

@@ -9,7 +9,7 @@ use Rattle.leveldb_files.specs.Stores.Format.{Meaning}
 use Rattle.rusty_leveldb.specs.Machines.State.{open_mode, State, IsState, Request, Answer}
 use Rattle.rusty_leveldb.specs.Machines.Causes.{Setting}
 use Rattle.rusty_leveldb.specs.Machines.Machine.{MayGrow, added_batch, Writes, Breaks, Step, Risk, risk_between, risk_of, Crashes}
-use Rattle.rusty_leveldb.specs.Machines.Runs.{Event, setting_of, Run, CrashesIn, CrashBefore, last_moment, Ending, goes_on, crashes, Life, LifeLeads, Lives}
+use Rattle.rusty_leveldb.specs.Machines.Runs.{Event, setting_of, RunsEvents, CrashesIn, CrashBefore, last_moment, Ending, goes_on, crashes, Life, LifeLeads, Lives}
 use Rattle.rusty_leveldb.specs.Machines.Laws.{asked_by, items_of, batches_of, IsSubsequence, begun_by, begun_until, asked_in}
 use Rattle.rusty_leveldb.proofs.Machines.MachineLemmas.{Change, same, opens, stays, keeps, writes, covers, breaks, breaks_with, gives, releases, closes, abandons, change, none_pending, step_fits, crash_between_fits, crash_inside_fits, risk_opening, risk_cases}
 
@@ -344,7 +344,7 @@ module _ (meaning : Meaning) (Placed : Type 0) (part : History) where
   asked_of events = flat_map (λ event. asked_by event.request) events
 
   run_since : (asked : List (List Item)) (before : ℕ) (old : State) (events : List Event)
-      (after : ℕ) (new : State) → Since Placed part asked old → Run meaning before old events after new
+      (after : ℕ) (new : State) → Since Placed part asked old → RunsEvents meaning before old events after new
       → Since Placed part (asked ++ asked_of events) new
   run_since asked before old [] after new since run =
       subst (λ all. Since Placed part all new) (sym (append-nil asked)) (subst (λ s. Since Placed part asked s)

@@ -10,7 +10,7 @@ use Rattle.leveldb_files.specs.Stores.Format.{Meaning}
 use Rattle.rusty_leveldb.specs.Machines.Causes.{Setting, TakesLock}
 use Rattle.rusty_leveldb.specs.Machines.Laws.{HeldStays, MayRelease, NoneOpens, SnapshotIsRead, ViewsStay}
 use Rattle.rusty_leveldb.specs.Machines.Machine.{Gets, Gives, Step, added_batch}
-use Rattle.rusty_leveldb.specs.Machines.Runs.{Event, Run, setting_of}
+use Rattle.rusty_leveldb.specs.Machines.Runs.{Event, RunsEvents, setting_of}
 use Rattle.rusty_leveldb.specs.Machines.State.{Mode, Request, Snapshot, State, broken, closed, found, get, get_snapshot, open_mode, snapshot}
 use Rattle.leveldb_files.proofs.Histories.NumbersLemmas.{entries_more, placed_above}
 use Rattle.rusty_leveldb.proofs.Machines.MachineLemmas.{Change, abandons, before_pending, breaks, breaks_with, change, closes, covers, gives, keeps, opens, releases, same, stays, writes}
@@ -115,7 +115,7 @@ module _ (old new : State) (request : Request) (no_opening : TakesLock request �
       same_shown old new (ap (λ (s : State). s.history) a.state) (ap (λ (s : State). s.last) a.state)
 
 run_shown : (meaning : Meaning) (events : List Event) (before after : ℕ) (old last : State)
-    → NoneOpens events → Run meaning before old events after last → StaysShown old last
+    → NoneOpens events → RunsEvents meaning before old events after last → StaysShown old last
 run_shown meaning [] before after old last none run =
     same_shown old last (ap (λ (s : State). s.history) run.1) (ap (λ (s : State). s.last) run.1)
 run_shown meaning (event ∷ events) before after old last none run =

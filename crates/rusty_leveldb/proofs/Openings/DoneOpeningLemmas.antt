@@ -28,7 +28,7 @@ use Rattle.leveldb_store.specs.Keeping.Written.{IsDataPath}
 use Rattle.leveldb_store.specs.Keeping.WrittenFrom.{KeepsWrittenFrom}
 use Rattle.rusty_leveldb.specs.Engines.Boxes.{EngineOf, InternalOrder}
 use Rattle.rusty_leveldb.specs.Engines.Calls.{EngineOpens}
-use Rattle.rusty_leveldb.specs.Engines.Engine.{AnswersAs, formats_of, HasOwnTables, IsOpening, IsStoreName, Recalls, no_engine, options_in, scene, tables_by}
+use Rattle.rusty_leveldb.specs.Engines.Engine.{AnswersAs, formats_of, HasOwnTables, IsOpening, IsStoreName, Recalls, no_engine, engine_options, scene, tables_by}
 use Rattle.rusty_leveldb.specs.Engines.Frame.{IsOwn, Spares}
 use Rattle.rusty_leveldb.specs.Machines.Machine.{Opens}
 use Rattle.rusty_leveldb.specs.Engines.Serves.{AreReadAs, TakesStep, IsSpared, Represents}
@@ -108,20 +108,20 @@ module _ {E C FP F P : Type 0} {B : Boxed} {keys : InternalOrder C} {key_filters
   same_cmp : engine.store.cmp ≡ options.cmp
   same_cmp = kept.rest.cmp ∙ cmp
 
-  tells_in : ChangesLoggerOnly options (options_in engine)
+  tells_in : ChangesLoggerOnly options (engine_options engine)
   tells_in = record {
     rest = ap (λ (o : OptionsOf C FP B). record o { cmp = engine.store.cmp }) tells.rest
         ∙ ap (λ (c : C). record options { log = engine.options.log; cmp = c }) same_cmp;
     sink = tells.sink;
   }
 
-  format : formats (options_in engine) ≡ asked.format
-  format = ignores options (options_in engine) tells_in ∙ asked_is
+  format : formats (engine_options engine) ≡ asked.format
+  format = ignores options (engine_options engine) tells_in ∙ asked_is
 
   -- its tables are opened as those of the options
   by_options : tables_by formats engine ≡ table_options (formats options) options
-  by_options = ap (λ (f : Format). table_options f (options_in engine))
-      (ignores options (options_in engine) tells_in)
+  by_options = ap (λ (f : Format). table_options f (engine_options engine))
+      (ignores options (engine_options engine) tells_in)
       ∙ ap (λ (o : OptionsOf C FP B). table_options (formats options) o) tells_in.rest
 
   has_open : IsTrue env.models_disk → HasOpenTables keys env

@@ -151,8 +151,9 @@ module _ {E F C FP D P : Type 0} (order : CmpGhosts (InternalKeyCmp C)) (env : G
   broken_bytes go modelled bytes = ends.compacts.keeps.sound.bytes modelled (go modelled bytes)
 
   -- A manifest that is lost was there, where the disk is modelled.
-  lost_fails : {D2 P2 : Type 0} {keys2 : CmpGhosts D2} {filters2 : FilterGhosts P2}
-      (asked : TableChoices keys2 filters2) → IsManifestLost env first opened to e
+  lost_fails : {OtherC OtherP : Type 0} {other_keys : CmpGhosts OtherC}
+      {other_filters : FilterGhosts OtherP}
+      (asked : TableChoices other_keys other_filters) → IsManifestLost env first opened to e
       → FailsToOpen env store asked create_if_missing error_if_exists taken to e
   lost_fails asked (inl lost) = ⊎_elim (λ memory. inl memory)
       (λ missing. inr (
@@ -166,8 +167,9 @@ module _ {E F C FP D P : Type 0} (order : CmpGhosts (InternalKeyCmp C)) (env : G
   lost_fails asked (inr broke) = absurd (opens_first.unbroken.manifest broke.0)
 
   -- why it broke, said of the opening
-  pub broken_cause : {D2 P2 : Type 0} {keys2 : CmpGhosts D2} {filters2 : FilterGhosts P2}
-      (asked : TableChoices keys2 filters2)
+  pub broken_cause : {OtherC OtherP : Type 0} {other_keys : CmpGhosts OtherC}
+      {other_filters : FilterGhosts OtherP}
+      (asked : TableChoices other_keys other_filters)
       → FailsFor {T = OpenStoreValue C}
       (FailsToOpen env store asked create_if_missing error_if_exists taken to)
       (env.failures taken) (env.failures to) (Err e)

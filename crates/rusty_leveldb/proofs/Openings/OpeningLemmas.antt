@@ -26,7 +26,7 @@ use Rattle.leveldb_store.specs.Keeping.Written.{HasView}
 use Rattle.leveldb_store.specs.Keeping.WrittenFrom.{KeepsStoreFrom, KeepsWrittenFrom}
 use Rattle.rusty_leveldb.specs.Engines.Boxes.{EngineOf, InternalOrder}
 use Rattle.rusty_leveldb.specs.Machines.Causes.{Disagrees, Misfits, Setting}
-use Rattle.rusty_leveldb.specs.Engines.Engine.{HasOwnTables, Recalls, no_engine, options_in, scene}
+use Rattle.rusty_leveldb.specs.Engines.Engine.{HasOwnTables, Recalls, no_engine, engine_options, scene}
 use Rattle.rusty_leveldb.specs.Engines.Frame.{IsOwn, Spares}
 use Rattle.rusty_leveldb.specs.Machines.Machine.{MayOpen, Opens, StaysOr, Step}
 use Rattle.rusty_leveldb.specs.Engines.Serves.{AreReadAs, TakesStep, IsSpared, Reads, Represents, StandsFor, order_of, setting_between, snapshot_of}
@@ -456,7 +456,7 @@ module _ {E C FP F : Type 0} {B : Boxed} {keys : InternalOrder C} (env : Ghosts 
 
   recalled : engine.mode ≡ open_mode → engine.snapshots ≡ record { held = []; given = 0 }
       → engine.lock ≡ lock_path store
-      → formats (options_in engine) ≡ opening.format
+      → formats (engine_options engine) ≡ opening.format
       → HasOwnTables keys env formats engine (env.observed to).disk.files
       → Recalls keys env formats store meaning engine (env.observed to).disk new
   recalled mode unheld lock same tables = record {
@@ -498,7 +498,7 @@ module _ {E C FP F : Type 0} {B : Boxed} {keys : InternalOrder C} (env : Ghosts 
 
   represented : engine.mode ≡ open_mode → engine.snapshots ≡ record { held = []; given = 0 }
       → engine.lock ≡ lock_path store
-      → formats (options_in engine) ≡ opening.format
+      → formats (engine_options engine) ≡ opening.format
       → HasOwnTables keys env formats engine (env.observed to).disk.files
       → IsTrue opening.fits → IsTrue opening.compresses
       → AppendedAreBytes (env.observed to).disk.files
@@ -539,7 +539,7 @@ module _ {E C FP F : Type 0} {B : Boxed} {keys : InternalOrder C} (env : Ghosts 
 
   pub opened_found : engine.mode ≡ open_mode → engine.snapshots ≡ record { held = []; given = 0 }
       → engine.lock ≡ lock_path store
-      → formats (options_in engine) ≡ opening.format
+      → formats (engine_options engine) ≡ opening.format
       → HasOwnTables keys env formats engine (env.observed to).disk.files
       → IsTrue opening.fits → IsTrue opening.compresses
       → AppendedAreBytes (env.observed to).disk.files
@@ -558,7 +558,7 @@ module _ {E C FP F : Type 0} {B : Boxed} {keys : InternalOrder C} (env : Ghosts 
 
   pub opened_goes : engine.mode ≡ open_mode → engine.snapshots ≡ record { held = []; given = 0 }
       → engine.lock ≡ lock_path store
-      → formats (options_in engine) ≡ opening.format
+      → formats (engine_options engine) ≡ opening.format
       → HasOwnTables keys env formats engine (env.observed to).disk.files
       → IsTrue opening.fits → IsTrue opening.compresses
       → env.failures from ≤ env.failures to

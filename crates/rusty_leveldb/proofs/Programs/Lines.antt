@@ -16,7 +16,7 @@ use Rattle.leveldb_iter.specs.declared.moves.Move.{Move}
 use Rattle.leveldb_iter.specs.declared.moves.Move.TheVariants as move
 use Rattle.leveldb_base.specs.Names.{IsNumber}
 use Rattle.rusty_leveldb.specs.Programs.Language.{hex_word, item_word, sync_word, move_word, words_text, IsViewWord, IsLine, AreLines, HasBytes, ItemHasBytes, MoveHasBytes, IsNoLine, IsScript, IsBadLine}
-use Rattle.rusty_leveldb.specs.Programs.Spelling.{IsWordReading, IsPair, IsPairReading, IsItemReading, IsItems, IsItemsReading, IsNumberReading, IsViewReading, IsMoveReading, rest_text, IsMoves, IsMovesReading}
+use Rattle.rusty_leveldb.specs.Programs.Readings.{IsWordReading, IsPair, IsPairReading, IsItemReading, IsItems, IsItemsReading, IsNumberReading, IsViewReading, IsMoveReading, rest_text, IsMoves, IsMovesReading}
 use Rattle.rusty_leveldb.proofs.Programs.Words.{tail_of, has_middle, same_front, not_single, no_separator}
 
 -- lists that begin with two numbers aren't one

@@ -27,7 +27,7 @@ use Rattle.leveldb_files.specs.Histories.Holds.{IsHonest}
 use Rattle.leveldb_files.specs.Stores.Store.{HasNoStore}
 use Rattle.leveldb_files.specs.Steps.StoreSteps.{AppendedAreBytes}
 use Rattle.rusty_leveldb.specs.Machines.Runs as machine
-use Rattle.rusty_leveldb.specs.Machines.Runs.{Event, Run, CrashBefore, last_moment, StopsAt, LifeLeads, Lives, new_state}
+use Rattle.rusty_leveldb.specs.Machines.Runs.{Event, RunsEvents, CrashBefore, last_moment, StopsAt, LifeLeads, Lives, new_state}
 use Rattle.rusty_leveldb.specs.Engines.Serves.{StandsFor, Represents, recalls_nothing, IsBetweenCalls, IsConversation}
 use Rattle.rusty_leveldb.specs.Engines.Engine.{IsStoreName, IsOpening, opening_of}
 use Rattle.rusty_leveldb.specs.Programs.Lives.{IsLife, with_name, ending_of, IsCrash, IsHonestCrash, IsNextDevice, IsReportOf, IsLifeOn, AreReports, AreReportsFromNone, IsLifeOf, AreLivesOf, AreOneRun, HasNoCrash, ReportsLives}
@@ -161,8 +161,8 @@ module _ {C FP : Type 0} {B : Boxed} (cmp : CmpGhosts C) (filters : FilterGhosts
     by_end : (moment : Option ℕ) → life.moment ≡ moment → IsNextDevice (IsHonestCrash store) start moment life.pick to next → RunFrom (life ∷ lives) (report ∷ reports) device old
     by_end None ends follows = join lived.run.new (subst (λ d. Stands store meaning d lived.run.new) (sym follows) lived.run.represents)
         (subst (λ m. LifeLeads meaning start (failures_of device) old lived.run.events (ending_of start m) (failures_of next) lived.run.new) (sym ends)
-        (subst (λ n. Run meaning n old lived.run.events (failures_of next) lived.run.new) is.same.failures
-        (subst (λ (d : RecordEnv). Run meaning (failures_of is.from) old lived.run.events (failures_of d) lived.run.new) (sym follows) lived.run.run)))
+        (subst (λ n. RunsEvents meaning n old lived.run.events (failures_of next) lived.run.new) is.same.failures
+        (subst (λ (d : RecordEnv). RunsEvents meaning (failures_of is.from) old lived.run.events (failures_of d) lived.run.new) (sym follows) lived.run.run)))
     by_end (Some moment) ends follows =
         let crash = follows.crash in
         let at = start + moment in

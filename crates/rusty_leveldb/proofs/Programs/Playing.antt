@@ -14,7 +14,7 @@ use Rattle.rusty_leveldb.specs.declared.shell.commands.Reply.{Reply}
 use Rattle.rusty_leveldb.specs.Machines.State.{State, Snapshot, Opening, Request, open_store, abandon, Answer, done, refused}
 use Rattle.leveldb_files.specs.Histories.Holds.{IsHonest}
 use Rattle.rusty_leveldb.specs.Machines.Machine.{Step, Crashes, risk_between}
-use Rattle.rusty_leveldb.specs.Machines.Runs.{Event, Run, CrashesIn, CrashBefore, last_moment, StopsAt, setting_of}
+use Rattle.rusty_leveldb.specs.Machines.Runs.{Event, RunsEvents, CrashesIn, CrashBefore, last_moment, StopsAt, setting_of}
 use Rattle.rusty_leveldb.specs.Engines.Serves.{StandsFor, Represents, TakesStep, Runs, recalls_nothing, IsHonestlyLeft, IsBetweenCalls, IsConversation, done_or, refusal_of}
 use Rattle.rusty_leveldb.specs.Engines.Engine.{scene, Recalls, Answers, AnswersAs, IsOpening, no_engine}
 use Rattle.leveldb_store.specs.Writing.Room.{FailsFor}
@@ -68,9 +68,9 @@ module _ {E F : Type 0} (env : Ghosts E F) (store : List ℕ) where
 -- ---- runs
 
 pub run_more : (meaning : Meaning) (before mid : ℕ) (old new last : State) (events : List Event) (event : Event)
-    → Run meaning before old events mid new → mid ≤ event.failures
+    → RunsEvents meaning before old events mid new → mid ≤ event.failures
     → Step new.mode (setting_of meaning mid event) new event.request event.answer last
-    → Run meaning before old (events ++ event ∷ []) event.failures last
+    → RunsEvents meaning before old (events ++ event ∷ []) event.failures last
 run_more meaning before mid old new last [] event run more step = (
   subst (λ n. n ≤ event.failures) run.0 more,
   last,
@@ -229,7 +229,7 @@ module _ {E F C FP : Type 0} {B : Boxed} (keys : InternalOrder C) (env : Ghosts 
     last_is : last_moment (env.observed from).moment led.events ≡ (env.observed mid).moment
     last_is = led.last
 
-    run_now : Run meaning (env.failures from) old (led.events ++ now ∷ []) (env.failures to) goes.new
+    run_now : RunsEvents meaning (env.failures from) old (led.events ++ now ∷ []) (env.failures to) goes.new
     run_now = run_more meaning (env.failures from) (env.failures mid) old led.new goes.new led.events now led.run goes.later goes.step
 
     by_now : (moment : ℕ) → (env.observed from).moment ≤ moment → (env.observed to).moment ≤ moment → All (λ (event : Event). event.moment ≤ moment) (led.events ++ now ∷ [])

@@ -19,7 +19,7 @@ use Rattle.rusty_leveldb.specs.declared.shell.commands.Command.TheVariants as co
 use Rattle.rusty_leveldb.specs.declared.shell.commands.Reply.{Reply}
 use Rattle.rusty_leveldb.specs.Engines.Boxes.{EngineOf, InternalOrder}
 use Rattle.rusty_leveldb.specs.Engines.Engine.{Answers, formats_of}
-use Rattle.rusty_leveldb.specs.Programs.RunCalls.{CallsEngine, CallsInTurn, IsTold, held_by, held_named, view_named}
+use Rattle.rusty_leveldb.specs.Programs.RunCalls.{CallsEngine, CallsInTurn, IsReplyAlone, held_by, held_named, view_named}
 use Rattle.rusty_leveldb.specs.Engines.Serves.{done_or, found_or, snapshot_of, snapshot_or}
 use Rattle.rusty_leveldb.specs.Programs.Shell.{change_of, given_by, request_of, snapshot_named}
 use Rattle.rusty_leveldb.specs.Machines.State.{Answer, Request, Snapshot, close, compact_range, flush, get, release_snapshot, write}
@@ -90,7 +90,7 @@ module _ {E C FP F P : Type 0} {B : Boxed} {keys : InternalOrder C} {key_filters
 
   -- one that takes no snapshot
   answered : (one : Command) (request : Request) (answer : Answer) → given_by answer ≡ []
-      → request_of (map snapshot_of taken) one ≡ request → IsTold taken answer told left
+      → request_of (map snapshot_of taken) one ≡ request → IsReplyAlone taken answer told left
       → Answers keys env (formats_of choices) (Some before) from request answer (Some after) to
       → Answered one
   answered one request answer none asks tells step = record {

@@ -7,8 +7,8 @@ use Rattle.std.proofs.lemmas.List.Elements.{Contains-append_right}
 use Rattle.hex.specs.Hex.{IsBytes, is_hex_digit, encode_lower, encode_with, lower_digits, decode_of}
 use Rattle.hex.specs.declared.error.FromHexError.{FromHexError}
 use Rattle.hex.proofs.HexLemmas.{decode_of-ok, decode_of-encode_lower, length-encode_with}
-use Rattle.rusty_leveldb.specs.Programs.Language.{hex_word, Appends}
-use Rattle.rusty_leveldb.specs.Programs.Spelling.{IsWord}
+use Rattle.rusty_leveldb.specs.Programs.Language.{hex_word, OutputGrows}
+use Rattle.rusty_leveldb.specs.Programs.Readings.{IsHexWord}
 
 -- a list without its first element
 abbrev pub tail_of : List ℕ → List ℕ
@@ -56,23 +56,23 @@ no_separator separator (byte ∷ bytes) h no_dot no_digit found =
     cc (sym no_digit ∙ is)
 
 -- a full stop encodes no bytes
-pub dot_spells : (word bytes : List ℕ) → word ≡ codes "." → IsWord word bytes → [] ≡ bytes
-dot_spells word [] dot is = refl
-dot_spells word (byte ∷ bytes) dot is =
+pub dot_encodes : (word bytes : List ℕ) → word ≡ codes "." → IsHexWord word bytes → [] ≡ bytes
+dot_encodes word [] dot is = refl
+dot_encodes word (byte ∷ bytes) dot is =
     let long = ap length (sym dot ∙ is.1) in
     let twice = length-encode_with lower_digits (byte ∷ bytes) in
     absurd (omega (arith, long, twice))
 
 -- what another word encodes is what its digits are
-spelled : (word bytes : List ℕ) → word ≢ codes "." → IsWord word bytes → decode_of word ≡ Ok bytes
+spelled : (word bytes : List ℕ) → word ≢ codes "." → IsHexWord word bytes → decode_of word ≡ Ok bytes
 spelled word [] no_dot is = absurd (no_dot is.1)
 spelled word (byte ∷ bytes) no_dot is = ap decode_of is.1 ∙ decode_of-encode_lower (byte ∷ bytes) is.0
 
-pub decoded_is : (word read bytes : List ℕ) → word ≢ codes "." → decode_of word ≡ Ok read → IsWord word bytes → read ≡ bytes
+pub decoded_is : (word read bytes : List ℕ) → word ≢ codes "." → decode_of word ≡ Ok read → IsHexWord word bytes → read ≡ bytes
 decoded_is word read bytes no_dot decoded is =
     ap (λ (r : Result (List ℕ) FromHexError). result_unwrap_or r []) (sym decoded ∙ spelled word bytes no_dot is)
 
-pub not_decoded : (word : List ℕ) (error : FromHexError) (bytes : List ℕ) → word ≢ codes "." → decode_of word ≡ Err error → IsWord word bytes → ⊥
+pub not_decoded : (word : List ℕ) (error : FromHexError) (bytes : List ℕ) → word ≢ codes "." → decode_of word ≡ Err error → IsHexWord word bytes → ⊥
 not_decoded word error bytes no_dot refused is = cc (sym refused ∙ spelled word bytes no_dot is)
 
 -- the digits of bytes, one after another
@@ -98,13 +98,13 @@ hex_word_none [] none = refl
 hex_word_none (byte ∷ bytes) none = absurd (omega (arith, none))
 
 -- a text that grew at once
-pub appends_one : (before after text : List ℕ) (r : Result (Unit {0}) AllocError) → after ≡ (if is_ok r then before ++ text else before) → Appends before after r text
+pub appends_one : (before after text : List ℕ) (r : Result (Unit {0}) AllocError) → after ≡ (if is_ok r then before ++ text else before) → OutputGrows before after r text
 appends_one before after text (Ok done) e = (text, e, refl)
 appends_one before after text (Err error) e = ([], e ∙ sym (append-nil before), tt)
 
 -- a text that grew twice
 pub appends_more : (before middle after a b : List ℕ) (r : Result (Unit {0}) AllocError)
-    → (middle ≡ before ++ a) → Appends middle after r b → Appends before after r (a ++ b)
+    → (middle ≡ before ++ a) → OutputGrows middle after r b → OutputGrows before after r (a ++ b)
 appends_more before middle after a b (Ok done) first second =
     (a ++ second.0, second.1 ∙ ap (λ (xs : List ℕ). xs ++ second.0) first ∙ append_assoc before a second.0, ap (λ (xs : List ℕ). a ++ xs) second.2)
 appends_more before middle after a b (Err error) first second =

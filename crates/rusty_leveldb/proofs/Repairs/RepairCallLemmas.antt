@@ -29,16 +29,16 @@ use Rattle.leveldb_store.proofs.Keeping.TableKeepsLemmas.{types_apart}
 use Rattle.leveldb_store.specs.Tables.BuildTable.{TableChoices}
 use Rattle.leveldb_store.specs.Writing.Room.{HasFailed}
 use Rattle.leveldb_repair.specs.FoundWalkTable.{FailsBetweenOr}
-use Rattle.leveldb_repair.specs.RepairStore.{HasClash, HasLargeBatchInLog, HasTooFewNumbers, HasUndecodedTable, HasUnlikeDeletions, IsMomentOfRepair, HoldsAllFound, RepairsStore, WhyNotBegun, WhyNotEnded}
+use Rattle.leveldb_repair.specs.RepairStore.{HasClash, HasLargeBatchInLog, HasTooFewNumbers, HasUndecodedTable, HasUnlikeDeletions, IsMomentOfRepair, IsOldOrPartlyRepaired, HoldsAllFound, RepairsStore, WhyNotBegun, WhyNotEnded}
 use Rattle.rusty_leveldb.specs.Engines.Engine.{IsStoreName}
 use Rattle.rusty_leveldb.specs.Engines.Frame.{IsKeptOrMade, IsOwn, IsOwned, Spares}
-use Rattle.rusty_leveldb.specs.Repairs.Repair.{AreFoundIn, IsMomentOfLockedRepair, IsAllRepaired, IsSparedOrRepaired, LeavesOthers, RepairExcused, RepairRefused, Repairs, repaired_state}
+use Rattle.rusty_leveldb.specs.Repairs.Repair.{AreFoundIn, IsLockedOrPartlyRepaired, IsMomentOfLockedRepair, IsAllRepaired, IsSparedOrRepaired, LeavesOthers, RepairExcused, RepairRefused, Repairs, repaired_state}
 use Rattle.rusty_leveldb.specs.Engines.Serves.{StandsFor}
 use Rattle.rusty_leveldb.specs.Machines.State.{Opening, State, closed}
 use Rattle.rusty_leveldb.specs.Openings.Unopened.{MakesLockAlone}
 use Rattle.rusty_leveldb.proofs.Openings.OpenCallLemmas.{IsNear}
 use Rattle.rusty_leveldb.proofs.Engines.Others.{others_made}
-use Rattle.rusty_leveldb.proofs.Repairs.RepairFilesLemmas.{bare_back, clash_back, few_back, in_repair_back, large_back, many_back, pairs_back, repair_back, undecoded_back, unlike_back}
+use Rattle.rusty_leveldb.proofs.Repairs.RepairFilesLemmas.{bare_back, clash_back, few_back, in_repair_back, large_back, many_back, pairs_back, partly_back, repair_back, undecoded_back, unlike_back}
 use Rattle.rusty_leveldb.proofs.Repairs.RepairStatesLemmas.{closed_if_free, made_keeps, made_spared, repaired_stands, repair_leaves, repair_spares, still_stands}
 use Rattle.rusty_leveldb.proofs.Openings.UnderLockLemmas.{IsTaken, failed_beside, set_other, set_same}
 
@@ -139,14 +139,15 @@ module _ (store : List ℕ) (old now : Files) where
 
 -- ---- before the lock is taken
 
-module _ {E F : Type 0} (env : Ghosts E F) (store : List ℕ) (asked : Opening) (from to : E)
-    (NotEnded : Status → Type 0) (e : Status) where
+module _ {E F C FP : Type 0} {order : CmpGhosts C} {filters : FilterGhosts FP} (env : Ghosts E F)
+    (store : List ℕ) (asked : Opening) (from to : E) (choices : TableChoices order filters)
+    (e : Status) where
   pub early_repairs : (IsTrue env.models_disk → IsNear store (env.observed from) (env.observed to))
       → env.failures from ≤ env.failures to
-      → RepairExcused env store asked from NotEnded to e
+      → RepairExcused env store asked from (WhyNotEnded choices env store from) to e
       ⊎ HasFailed (env.failures from) (env.failures to)
       → ((IsStoreName store × IsTrue asked.fits × IsTrue asked.compresses → ⊥) → to ≡ from)
-      → Repairs env store asked from NotEnded (Err e) to
+      → Repairs env store asked from choices (Err e) to
   early_repairs near later why misnamed = record {
     ok = tt;
     becomes = tt;
@@ -162,6 +163,7 @@ module _ {E F : Type 0} (env : Ghosts E F) (store : List ℕ) (asked : Opening) 
         (λ now passes. inl (made_spared store meaning asked (env.observed from) old was now passes))
         (near modelled).run;
     in_repair = λ modelled meaning agrees. Run-mono (λ now passes. inl passes) (near modelled).run;
+    parts = λ modelled meaning agrees. Run-mono (λ now passes. inl passes) (near modelled).run;
     kept = λ modelled. Run-mono (λ now passes. made_leaves store (env.observed from).disk.files now
         passes) (near modelled).run;
     others = λ modelled. others_made store (env.observed from).disk (env.observed to).disk
@@ -330,6 +332,21 @@ module _ {E F C FP : Type 0} {order : CmpGhosts C} {filters : FilterGhosts FP} (
           call modelled both
           (λ now is. subst (IsMomentOfLockedRepair store asked.format meaning old) (sym is) both.has) does
 
+    whole_parts : (meaning : Meaning) → Agrees choices.format meaning
+        → Run (IsLockedOrPartlyRepaired store choices meaning old) (env.observed from)
+        (env.observed to)
+    whole_parts meaning agrees =
+        let both = Run-trans (Run-mono (λ now passes. inl passes) (took modelled).run) at_parts
+        (repairs.parts modelled meaning agrees) in
+        call modelled both
+        (λ now is. subst (IsLockedOrPartlyRepaired store choices meaning old) (sym is) both.has) does
+      where
+        at_parts : (now : Files) → IsOldOrPartlyRepaired choices store meaning here now
+            → IsLockedOrPartlyRepaired store choices meaning old now
+        at_parts now (inl is) = inl (subst (BeforeOrAfter (created (lock_path store)) old) (sym is)
+            (took modelled).run.has)
+        at_parts now (inr it) = inr (partly_back store old here but lock_made choices meaning now it)
+
     -- ---- the call
 
     bytes_end : AppendedAreBytes old → AppendedAreBytes end
@@ -438,7 +455,7 @@ module _ {E F C FP : Type 0} {order : CmpGhosts C} {filters : FilterGhosts FP} (
 
   -- the files couldn't be repaired
   pub late_repairs : (e : Status) → result ≡ Err e
-      → Repairs env store asked from NotEnded (Err e) to
+      → Repairs env store asked from choices (Err e) to
   late_repairs e is = record {
     ok = tt;
     becomes = tt;
@@ -450,6 +467,7 @@ module _ {E F C FP : Type 0} {order : CmpGhosts C} {filters : FilterGhosts FP} (
         (repair_spares store meaning asked agrees total (env.observed from) before was found are)
         (whole_run modelled meaning agrees);
     in_repair = whole_run;
+    parts = whole_parts;
     kept = λ modelled. Run-mono
         (λ now at. at_leaves store old now asked.format (any_meaning modelled) at)
         (any_run modelled);
@@ -489,7 +507,7 @@ module _ {E F C FP : Type 0} {order : CmpGhosts C} {filters : FilterGhosts FP} (
           ⊎ WhyNotEnded choices env store taken status) taken mid status)) is repairs.cause)
 
   -- they were repaired, and the lock is given back or not
-  pub done_repairs : result ≡ Ok tt → Repairs env store asked from NotEnded given to
+  pub done_repairs : result ≡ Ok tt → Repairs env store asked from choices given to
   done_repairs is = by given left freed
     where
       all : IsAllRepaired env store asked from to
@@ -528,7 +546,7 @@ module _ {E F C FP : Type 0} {order : CmpGhosts C} {filters : FilterGhosts FP} (
           → (IsTrue env.models_disk → IsLockLeft store (env.observed mid) (env.observed to)
           (env.failures mid) (env.failures to) r)
           → HasCause (λ _. ⊥) (env.failures mid) (env.failures to) r
-          → Repairs env store asked from NotEnded r to
+          → Repairs env store asked from choices r to
       by (Ok nothing) left_so freed_so = record {
         ok = all;
         becomes = λ modelled meaning agrees bytes found are. subst
@@ -540,6 +558,7 @@ module _ {E F C FP : Type 0} {order : CmpGhosts C} {filters : FilterGhosts FP} (
         err = tt;
         moments = moments;
         in_repair = whole_run;
+        parts = whole_parts;
         kept = kept;
         others = spares;
         bytes = bytes_end;
@@ -562,6 +581,7 @@ module _ {E F C FP : Type 0} {order : CmpGhosts C} {filters : FilterGhosts FP} (
             (all modelled meaning agrees) (bytes_end modelled was.bytes));
         moments = moments;
         in_repair = whole_run;
+        parts = whole_parts;
         kept = kept;
         others = spares;
         bytes = bytes_end;

@@ -1,50 +1,71 @@
 -- A repair under the store's lock, whose file was made for it: what it says of the files with that
 -- file it says of them as they were before.
 use Rattle.std.specs.Prelude.{string_bytes}
-use Rattle.std.proofs.Common.{◌≡◌, ◌≢◌, ◌<◌, ◌≤◌, ◌++◌, ◌∷◌, ◌∙◌, ⊎_elim, inl, inr, ℕ, List, [], refl, sym, ap, subst, arith, Option, None, Some}
+use Rattle.std.proofs.Common.{◌≡◌, ◌≢◌, ◌⊎◌, ◌<◌, ◌≤◌, ◌++◌, ◌∷◌, ◌∙◌, ⊎_elim, inl, inr, ℕ, List, [], false, refl, sym, ap, subst, arith, Option, None, Some}
 use Rattle.std.proofs.lemmas.Bool.{cases_lt}
+use Rattle.std.specs.Str.{bytes_eq}
+use Rattle.leveldb_base.proofs.NamesLemmas.{made_name}
+use Rattle.leveldb_base.specs.Entries.{entry_of_pair}
 use Rattle.leveldb_base.specs.History.{Entry}
 use Rattle.leveldb_base.specs.Names.{IsFileName, file_name}
 use Rattle.leveldb_base.specs.Types.{Pair}
+use Rattle.leveldb_base.specs.declared.cmp.Cmp.{Ghosts as CmpGhosts}
 use Rattle.leveldb_base.specs.declared.error.Status.{Status}
 use Rattle.leveldb_base.specs.declared.types.FileType.{FileType}
 use Rattle.leveldb_base.specs.declared.types.FileType.TheVariants.{DBLock, Log, Table}
 use Rattle.std.specs.Option.{option_map}
-use Rattle.leveldb_env.specs.Env.{File, Files, SameBut, bytes_of, in_folder, or_empty}
+use Rattle.leveldb_env.specs.Env.{BeforeOrAfter, File, Files, SameBut, bytes_of, created, in_folder, or_empty}
+use Rattle.leveldb_env.specs.declared.filter.FilterPolicy.{Ghosts as FilterGhosts}
+use Rattle.leveldb_env.proofs.EnvLemmas.{SameBut-created}
 use Rattle.leveldb_version.proofs.Repairs.FoundLemmas.{found_goes_by_bytes}
 use Rattle.leveldb_files.proofs.Stores.ManagedLemmas.{numbers_apart}
 use Rattle.leveldb_files.specs.Stores.Format.{Format, Meaning}
 use Rattle.leveldb_version.specs.Repairs.Found.{AreFound, HasNoTableNorLog, IsAnyTable, IsFound}
-use Rattle.leveldb_files.specs.Stores.Paths.{IsFilePath, current_path, lock_path}
+use Rattle.leveldb_files.specs.Stores.Paths.{current_path, lock_path}
 use Rattle.leveldb_version.specs.Repairs.Repairing.{IsGreatestInFolder, IsAmidRepair, SameTablesAndLogs}
 use Rattle.leveldb_store.proofs.Keeping.TableKeepsLemmas.{types_apart}
 use Rattle.leveldb_store.specs.Logs.NextFound.{BeginsAt}
-use Rattle.leveldb_repair.specs.RepairStore.{ArePairsFound, AreTooManyFound, HasClash, HasLargeBatchInLog, HasTooFewNumbers, HasUndecodedTable, HasUnlikeDeletions, IsFoundPair, HoldsOldOrAllFound, HoldsAllFound}
+use Rattle.leveldb_store.specs.Tables.BuildTable.{TableChoices}
+use Rattle.leveldb_store.specs.Tables.TableParts.{IsSameOrPart}
+use Rattle.leveldb_repair.proofs.TablePartsLemmas.{part_weaker}
+use Rattle.leveldb_repair.specs.RepairStore.{ArePairsFound, AreTooManyFound, HasClash, HasLargeBatchInLog, HasTooFewNumbers, HasUndecodedTable, HasFoundEntry, HasUnlikeDeletions, IsFoundPair, IsPartlyRepaired, HoldsOldOrAllFound, HoldsAllFound}
 use Rattle.rusty_leveldb.proofs.Openings.LockLemmas.{lock_current}
 
 empty_twice : (file : Option File) → or_empty (or_empty file) ≡ or_empty file
 empty_twice None = refl
 empty_twice (Some file) = refl
 
+-- the lock's file is no table and no log
+lock_apart : (store name : List ℕ) (n : ℕ) → (IsFileName name n Table ⊎ IsFileName name n Log)
+    → bytes_eq (lock_path store) (in_folder store name) ≡ false
+lock_apart store name n (inl is) = types_apart store (lock_path store) (in_folder store name) DBLock
+    Table (file_name DBLock 0, 0, (refl, refl), refl) (name, n, is, refl)
+    (λ e. let never : DBLock ≡ Table = e in cc)
+lock_apart store name n (inr is) = types_apart store (lock_path store) (in_folder store name) DBLock
+    Log (file_name DBLock 0, 0, (refl, refl), refl) (name, n, is, refl)
+    (λ e. let never : DBLock ≡ Log = e in cc)
+
+-- making it leaves each of these
+pub lock_leaves : (store : List ℕ) (old now : Files)
+    → BeforeOrAfter (created (lock_path store)) old now → (name : List ℕ) (n : ℕ)
+    → (IsFileName name n Table ⊎ IsFileName name n Log)
+    → now (in_folder store name) ≡ old (in_folder store name)
+lock_leaves store old now passes name n kind =
+    SameBut-created (lock_path store) old now passes (in_folder store name)
+    (lock_apart store name n kind)
+
 -- the lock's file is there, made if it was missing; all others are as they were
 module _ (store : List ℕ) (old mid : Files) (but : SameBut (lock_path store) old mid)
     (made : mid (lock_path store) ≡ or_empty (old (lock_path store))) where
-  abbrev is_lock : IsFilePath DBLock store (lock_path store)
-  is_lock = (file_name DBLock 0, 0, (refl, refl), refl)
-
   -- ---- single files
 
   same_table : (name : List ℕ) (n : ℕ) → IsFileName name n Table
       → mid (in_folder store name) ≡ old (in_folder store name)
-  same_table name n is = but (in_folder store name)
-      (types_apart store (lock_path store) (in_folder store name) DBLock Table is_lock
-      (name, n, is, refl) (λ e. let never : DBLock ≡ Table = e in cc))
+  same_table name n is = but (in_folder store name) (lock_apart store name n (inl is))
 
   same_log : (name : List ℕ) (n : ℕ) → IsFileName name n Log
       → mid (in_folder store name) ≡ old (in_folder store name)
-  same_log name n is = but (in_folder store name)
-      (types_apart store (lock_path store) (in_folder store name) DBLock Log is_lock
-      (name, n, is, refl) (λ e. let never : DBLock ≡ Log = e in cc))
+  same_log name n is = but (in_folder store name) (lock_apart store name n (inr is))
 
   same_numbered : (name : List ℕ) (n : ℕ) (kind : FileType) → IsFileName name n kind → 0 < n
       → mid (in_folder store name) ≡ old (in_folder store name)
@@ -198,6 +219,33 @@ module _ (store : List ℕ) (old mid : Files) (but : SameBut (lock_path store) o
         again ∙ ap or_empty made ∙ empty_twice (old (lock_path store))) r.lock);
     begun = r.begun;
     fits = r.fits;
+  }
+
+  -- a part of a table is one of the same entries
+  part_back : {C FP : Type 0} {order : CmpGhosts C} {filters : FilterGhosts FP}
+      (choices : TableChoices order filters) (meaning : Meaning) {was stood now : Option File}
+      → stood ≡ was → IsSameOrPart choices (HasFoundEntry choices store meaning mid) stood now
+      → IsSameOrPart choices (HasFoundEntry choices store meaning old) was now
+  part_back choices meaning same (inl still) = inl (still ∙ same)
+  part_back choices meaning same (inr (file, there, part)) = inr (
+    file,
+    there,
+    part_weaker choices (bytes_of file) (λ pair is.
+        found_back (IsAnyTable choices.format.order meaning) (entry_of_pair pair) is) part,
+  )
+
+  pub partly_back : {C FP : Type 0} {order : CmpGhosts C} {filters : FilterGhosts FP}
+      (choices : TableChoices order filters) (meaning : Meaning) (now : Files)
+      → IsPartlyRepaired choices store meaning mid now
+      → IsPartlyRepaired choices store meaning old now
+  partly_back choices meaning now it = record {
+    taken = it.taken;
+    next = it.next;
+    repairing = repairing_back it.taken it.next now it.repairing;
+    parts = λ n from below.
+        let fits = it.repairing.fits in
+        part_back choices meaning (same_table (file_name Table n) n
+        (made_name Table n (omega (arith, below, fits)))) (it.parts n from below);
   }
 
   module _ (format : Format) (meaning : Meaning) where

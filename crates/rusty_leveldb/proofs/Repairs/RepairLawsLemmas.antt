@@ -4,23 +4,31 @@ use Rattle.std.proofs.Common.{◌≡◌, ◌≤◌, ◌+◌, ◌∙◌, ⊎_elim
 use Rattle.leveldb_base.proofs.HistoryLemmas.{in_front}
 use Rattle.leveldb_base.specs.declared.cmp.Cmp.{Ghosts as CmpGhosts}
 use Rattle.leveldb_base.specs.History.{Entry, History, SameView, count_of, entries_of, greatest}
-use Rattle.leveldb_env.specs.Env.{Files}
+use Rattle.std.specs.Option.{option_map}
+use Rattle.leveldb_env.specs.Env.{BeforeOrAfter, File, FileCrashesTo, Files, bytes_of, created, in_folder}
 use Rattle.leveldb_env.specs.Options.{Boxed, OptionsOf}
 use Rattle.leveldb_env.specs.declared.env.Env.{Ghosts}
 use Rattle.leveldb_env.specs.declared.filter.FilterPolicy.{Ghosts as FilterGhosts}
 use Rattle.leveldb_env.proofs.EnvLemmas.{since_start}
 use Rattle.leveldb_store.specs.Tables.BuildTable.{TableChoices}
+use Rattle.leveldb_version.proofs.Repairs.FoundLemmas.{found_goes_by_bytes}
 use Rattle.leveldb_version.proofs.Repairs.RepairingFoundLemmas.{found_shows_the_same}
+use Rattle.leveldb_files.proofs.Stores.KeptLemmas.{kept_left}
+use Rattle.leveldb_files.specs.Stores.Paths.{lock_path}
+use Rattle.leveldb_store.proofs.Compactions.MergedMadeLemmas.{BuildsForStore}
 use Rattle.leveldb_files.proofs.Histories.SafeLemmas.{some_is}
 use Rattle.leveldb_files.specs.Stores.Contents.{Contents, Store, made, missing}
 use Rattle.leveldb_files.specs.Stores.Format.{Agrees, Meaning}
 use Rattle.leveldb_version.specs.Repairs.Found.{AreFound, IsAnyTable, IsFound}
 use Rattle.leveldb_files.specs.Stores.Store.{HasNoStore}
 use Rattle.leveldb_repair.proofs.RepairAgainLemmas.{leaves_found}
+use Rattle.leveldb_repair.proofs.RepairPartsLemmas.{crashes_leave_found, moments_leave_found}
+use Rattle.leveldb_repair.specs.RepairStore.{IsPartlyRepaired}
+use Rattle.rusty_leveldb.proofs.Repairs.RepairFilesLemmas.{lock_leaves}
 use Rattle.rusty_leveldb.specs.Engines.Boxes.{InternalOrder}
 use Rattle.rusty_leveldb.specs.Machines.Machine.{IsStoreOf, Opens, StaysOr, risk_between}
 use Rattle.rusty_leveldb.specs.Repairs.Repair.{AreFoundIn, repaired_state}
-use Rattle.rusty_leveldb.specs.Repairs.RepairLaws.{AnotherRepairFindsTheSame, CrashSinceRepair, HasNothingElse, OpensWhatRepairFound, RepairFindsWhatOpens}
+use Rattle.rusty_leveldb.specs.Repairs.RepairLaws.{AnotherRepairFindsTheSame, CrashSinceRepair, CrashesOfRepairsLoseNothing, HasNothingElse, OpensWhatRepairFound, RepairFindsWhatOpens, RepairsLoseNothing}
 use Rattle.rusty_leveldb.specs.Engines.Serves.{AreReadAs, IsSpared, Reads, StandsFor, order_of}
 use Rattle.rusty_leveldb.specs.Machines.State.{IsState, Opening, State, flush}
 use Rattle.rusty_leveldb.proofs.Engines.Crashes.{crash_inside}
@@ -97,6 +105,41 @@ module _ {E F D P : Type 0} {keys : CmpGhosts D} {key_filters : FilterGhosts P}
       since.4 honest free in (c.0, inr c.1, c.2))
       (since_start (repairs.moments modelled meaning agrees old was found are) (only to) since.0
       files since.1 since.2 since.3)
+
+-- ---- what is found after it
+
+module _ {E F D P : Type 0} {keys : CmpGhosts D} {key_filters : FilterGhosts P}
+    (env : Ghosts E F) (choices : TableChoices keys key_filters) (builds : BuildsForStore choices)
+  where
+    pub nothing_lost : RepairsLoseNothing env choices
+    nothing_lost name asked from to result meaning repairs modelled agrees whole =
+        let old = (env.observed from).disk.files in
+        let end = (env.observed to).disk.files in ⊎_elim
+        (λ (made : BeforeOrAfter (created (lock_path name)) old end).
+        found_goes_by_bytes name (IsAnyTable choices.format.order meaning) old end
+        (λ path n kind. ap (option_map bytes_of) (lock_leaves name old end made path n kind)))
+        (λ (it : IsPartlyRepaired choices name meaning old end).
+        moments_leave_found choices builds name meaning old end agrees it whole)
+        (repairs.parts modelled meaning agrees).has
+
+    module _ (only : (at : E) (files : Files)
+        → (env.observed at).at_moment (env.observed at).moment files
+        → files ≡ (env.observed at).disk.files) where
+      pub crash_loses_nothing : CrashesOfRepairsLoseNothing env choices
+      crash_loses_nothing name asked from to result meaning files left repairs modelled agrees kept
+          since no_other whole =
+          let old = (env.observed from).disk.files in ⊎_elim
+          (λ (made : BeforeOrAfter (created (lock_path name)) old files).
+          found_goes_by_bytes name (IsAnyTable choices.format.order meaning) old left
+          (λ path n kind. kept_left (old (in_folder name path)) (left (in_folder name path))
+          (kept (in_folder name path))
+          (subst (λ (f : Option File). FileCrashesTo f (left (in_folder name path)))
+          (lock_leaves name old files made path n kind) (since.4 (in_folder name path)))))
+          (λ (it : IsPartlyRepaired choices name meaning old files).
+          crashes_leave_found choices builds name meaning old files left agrees it kept since.4
+          no_other whole)
+          (since_start (repairs.parts modelled meaning agrees) (only to) since.0 files since.1 since.2
+          since.3)
 
 -- ---- what is found of a whole store
 

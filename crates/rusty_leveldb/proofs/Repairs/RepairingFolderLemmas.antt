@@ -5,7 +5,6 @@ use Rattle.leveldb_base.specs.declared.error.Status.{Status}
 use Rattle.leveldb_env.specs.Compressor.{Codings, plain_codings}
 use Rattle.leveldb_env.specs.declared.env.Env.{Ghosts}
 use Rattle.leveldb_store.specs.Tables.BuildTable.{TableChoices}
-use Rattle.leveldb_repair.specs.RepairStore.{WhyNotEnded}
 use Rattle.rusty_leveldb.specs.Programs.Program.{HasRepaired, ldb_choices, ldb_filters, ldb_keys, ldb_opening}
 use Rattle.rusty_leveldb.specs.Repairs.Repair.{Repairs}
 use Rattle.rusty_leveldb.specs.Machines.State.{Opening}
@@ -31,9 +30,9 @@ chooses_so same policy id size restarts = λ i. record ldb_choices {
 pub repaired_folder : {E F : Type 0} (choices : TableChoices ldb_keys ldb_filters)
     (env : Ghosts E F) (folder : List ℕ) (wanted : Opening) (from to : E)
     (result : Result (Unit {0}) Status) → choices ≡ ldb_choices → wanted ≡ ldb_opening
-    → Repairs env folder wanted from (WhyNotEnded choices env folder from) result to
+    → Repairs env folder wanted from choices result to
     → HasRepaired env folder ldb_opening from result to
 repaired_folder choices env folder wanted from to result so asks repairs =
     subst (λ (o : Opening). HasRepaired env folder o from result to) asks
     (subst (λ (c : TableChoices ldb_keys ldb_filters).
-    Repairs env folder wanted from (WhyNotEnded c env folder from) result to) so repairs)
+    Repairs env folder wanted from c result to) so repairs)

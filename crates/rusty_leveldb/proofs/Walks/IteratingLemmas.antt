@@ -24,7 +24,7 @@ use Rattle.leveldb_store.specs.Reading.View.{FailsBetween, IsOfNoCompressor, IsW
 use Rattle.leveldb_store.specs.Keeping.Written.{HasView}
 use Rattle.rusty_leveldb.specs.Engines.Boxes.{EngineOf, InternalOrder}
 use Rattle.rusty_leveldb.specs.Machines.Causes.{IsNotHeld}
-use Rattle.rusty_leveldb.specs.Engines.Engine.{IsClosed, ReadsAt, Recalls, ShowsViews, WalkExcused, held_in, options_in as engine_options, tables_by}
+use Rattle.rusty_leveldb.specs.Engines.Engine.{IsClosed, IsEngineSequence, Recalls, ShowsViews, WalkExcused, held_in, engine_options, tables_by}
 use Rattle.rusty_leveldb.specs.Walks.Iterator.{EngineIterates, IsIterator, IsMadeOver, IteratesAt, shown_store, world_in}
 use Rattle.rusty_leveldb.specs.Machines.Machine.{IsSequenceOf}
 use Rattle.rusty_leveldb.specs.Engines.Serves.{Represents}
@@ -70,9 +70,9 @@ module _ {E C FP F V : Type 0} {B : Boxed} (keys : InternalOrder C) (env : Ghost
     cause = cause;
   }
 
-  module _ (usable : IsClosed before.mode → ⊥) (sequence : ℕ) (reads_at : ReadsAt before at sequence) where
+  module _ (usable : IsClosed before.mode → ⊥) (sequence : ℕ) (reads_at : IsEngineSequence before at sequence) where
     -- the snapshot is held
-    held : (snapshot : Option Snapshot) → ReadsAt before snapshot sequence → IsNotHeld (held_in before) snapshot → ⊥
+    held : (snapshot : Option Snapshot) → IsEngineSequence before snapshot sequence → IsNotHeld (held_in before) snapshot → ⊥
     held None is unheld = unheld
     held (Some one) is unheld = unheld is.0
 
@@ -88,7 +88,7 @@ module _ {E C FP F V : Type 0} {B : Boxed} (keys : InternalOrder C) (env : Ghost
       options_are = rw (order_is, policy_is, compressors_are) refl
 
   -- an iterator that is made over the engine's store
-  module _ (usable : IsClosed before.mode → ⊥) (sequence : ℕ) (reads_at : ReadsAt before at sequence) (it : It)
+  module _ (usable : IsClosed before.mode → ⊥) (sequence : ℕ) (reads_at : IsEngineSequence before at sequence) (it : It)
       (environment : MutBor E) (tables : TableCache E C FP F) (from_is : environment.now ≡ from) (tables_is : tables ≡ before.tables)
       (made : IsMadeOver keys env cmp filters codings walk before.store before.options.filter_policy before.options.compressor_list environment tables sequence it) where
     abbrev now : it.env.now ≡ from
@@ -129,7 +129,7 @@ module _ {E C FP F V : Type 0} {B : Boxed} (keys : InternalOrder C) (env : Ghost
       last_is : before.store.set.last_sequence ≡ state.last
       last_is = was.memory_is.last not_closed
 
-      reads_in : (snapshot : Option Snapshot) → ReadsAt before snapshot sequence → IsSequenceOf state snapshot sequence × (shown.since ≤ sequence)
+      reads_in : (snapshot : Option Snapshot) → IsEngineSequence before snapshot sequence → IsSequenceOf state snapshot sequence × (shown.since ≤ sequence)
       reads_in None is = (
         is ∙ last_is,
         let least = shown.now in let reached = was.disk_is.is_state.reached in omega (arith, least, reached, is, last_is),
@@ -194,7 +194,7 @@ module _ {E C FP F V : Type 0} {B : Boxed} (keys : InternalOrder C) (env : Ghost
     }
 
   -- one that is made, or no memory for it
-  pub iterates_by : (IsClosed before.mode → ⊥) → (sequence : ℕ) → ReadsAt before at sequence
+  pub iterates_by : (IsClosed before.mode → ⊥) → (sequence : ℕ) → IsEngineSequence before at sequence
       → (environment : MutBor E) (tables : TableCache E C FP F) → environment.now ≡ from → tables ≡ before.tables → (r : Result It Status)
       → IfOk r (IsMadeOver keys env cmp filters codings walk before.store before.options.filter_policy before.options.compressor_list environment tables sequence)
       → IfErr r IsOutOfMemory → EngineIterates keys env cmp filters codings walk before from at r

@@ -19,7 +19,7 @@ use Rattle.leveldb_version.specs.declared.table_cache.moves.ReadTables.{ReadTabl
 use Rattle.leveldb_store.specs.Writing.Room.{HasFailed}
 use Rattle.leveldb_store.specs.Reading.View.{FailsBetween, ReadsAlone, any_in_order, options_in}
 use Rattle.rusty_leveldb.specs.Engines.Boxes.{InternalOrder}
-use Rattle.rusty_leveldb.specs.Walks.Iterator.{FailsMove, IsIterator, IsUnsupportedIn, IteratesAt, MoveRule, MovesIterator, ShownStore, no_cause, world_in}
+use Rattle.rusty_leveldb.specs.Walks.Iterator.{IteratorFails, IsIterator, IsUnsupportedIn, IteratesAt, MoveRule, MovesIterator, ShownStore, no_cause, world_in}
 use Rattle.rusty_leveldb.specs.declared.db_iter.StoreIterator.{StoreIterator}
 
 -- a count that has reached its bound stays there
@@ -90,7 +90,7 @@ module _ {E F C FP K V : Type 0} (keys : InternalOrder C) (env : Ghosts E F) (fi
   module _ (Own Why : Status → Type 0) (old new : StoreIterator E C FP K V F)
       (why : (to : E × ReadTables E C FP K F) (status : Status) → walk.fails (world_in old) old.view to status → FailsBetween env (world_in old) to Why status) where
     -- its cause
-    cause_of : (status : Status) → FailsOwn Own old new status → FailsMove env Own Why old new status
+    cause_of : (status : Status) → FailsOwn Own old new status → IteratorFails env Own Why old new status
     cause_of status fails = ⊎_elim
         (λ (below : walk.fails (world_in old) old.view (world_in new) status). ⊎_elim
         (λ (out : IsOutOfMemory status). inl out)
@@ -119,7 +119,7 @@ module _ {E F C FP K V : Type 0} (keys : InternalOrder C) (env : Ghosts E F) (fi
         → IteratesAt keys env cmp filters codings walk shown pairs position old → MatchResult r
         (λ _. IteratesAt keys env cmp filters codings walk shown pairs (way shown.format.order pairs position) new)
         (λ e. IteratesAt keys env cmp filters codings walk shown pairs None new
-        × FailsMove env Own (IsUnsupportedIn shown) old new e)
+        × IteratorFails env Own (IsUnsupportedIn shown) old new e)
     moves_in (Ok done) ok err cause shown pairs position at =
         stays_at old new leaves shown pairs position (way shown.format.order pairs position) at (ok at.is_iterator.laws shown.format.order pairs position at.is_at)
     moves_in (Err e) ok err cause shown pairs position at = (
@@ -128,7 +128,7 @@ module _ {E F C FP K V : Type 0} (keys : InternalOrder C) (env : Ghosts E F) (fi
     )
 
     stays_in : (r : Result R Status) → IfErr r (FailsOwn Own old new) → (format : Format) → IsIterator keys env cmp filters codings walk format old
-        → IsIterator keys env cmp filters codings walk format new × IfErr r (FailsMove env Own (λ e. IsTableFault format e.code) old new)
+        → IsIterator keys env cmp filters codings walk format new × IfErr r (IteratorFails env Own (λ e. IsTableFault format e.code) old new)
     stays_in (Ok done) cause format is = (stays_iterator old new leaves format is, tt)
     stays_in (Err e) cause format is = (
       stays_iterator old new leaves format is,

@@ -16,7 +16,7 @@ use Rattle.leveldb_store.specs.Reading.View.{WalksStore}
 use Rattle.rusty_leveldb.specs.Engines.Boxes.{EngineOf, InternalOrder}
 use Rattle.rusty_leveldb.specs.Engines.Calls.{EngineWalks, IsLockLeft, IsRefusedByMode}
 use Rattle.rusty_leveldb.specs.Machines.Causes.{IsNotHeld}
-use Rattle.rusty_leveldb.specs.Engines.Engine.{AnswersStill, IsClosed, RefusedAsClosed, WalkExcused, formats_of, held_in, holds_lock, options_in, tables_by, ReadsAt}
+use Rattle.rusty_leveldb.specs.Engines.Engine.{AnswersStill, IsClosed, RefusedAsClosed, WalkExcused, formats_of, held_in, holds_lock, engine_options, tables_by, IsEngineSequence}
 use Rattle.rusty_leveldb.specs.Machines.State as machine
 use Rattle.rusty_leveldb.specs.Machines.State.{Request, Snapshot, refused}
 use Rattle.rusty_leveldb.specs.Engines.Serves.{refusal_of}
@@ -77,12 +77,12 @@ module _ {E C FP F P : Type 0} {B : Boxed} {keys : InternalOrder C} {key_filters
         (walk_starved keys env (formats_of choices) before at moves usable status out)
         (λ refused_by_mode. absurd (usable refused_by_mode)) (inr (inr out))
 
-    module _ (sequence : ℕ) (reads_at : ReadsAt before at sequence) (to : E) (left : TableCache E C FP F) (given : List Step)
+    module _ (sequence : ℕ) (reads_at : IsEngineSequence before at sequence) (to : E) (left : TableCache E C FP F) (given : List Step)
         (result : Result (Unit {0}) Status)
         (walks : WalksStore keys env (tables_by (formats_of choices) before) before.store from before.tables sequence moves given result to left) where
       -- the engine in the end
       abbrev walked_engine : EngineOf E C FP F B
-      walked_engine = record before { options = options_in before; tables = left }
+      walked_engine = record before { options = engine_options before; tables = left }
 
       locks_stay : (r : Result (Unit {0}) Status) (now was : Bool) → now ≡ was → IsLockLeft (walk_of at moves) r was now
       locks_stay (Ok done) now was same = (same, tt)
@@ -131,7 +131,7 @@ module _ {E C FP F P : Type 0} {B : Boxed} {keys : InternalOrder C} {key_filters
           }
 
     -- the same where the options were given the store's order before the walk
-    pub walk_serves_in : (cmp : C) → cmp ≡ before.store.cmp → (sequence : ℕ) → ReadsAt before at sequence → (to : E) (left : TableCache E C FP F) (given : List Step)
+    pub walk_serves_in : (cmp : C) → cmp ≡ before.store.cmp → (sequence : ℕ) → IsEngineSequence before at sequence → (to : E) (left : TableCache E C FP F) (given : List Step)
         (result : Result (Unit {0}) Status)
         → (let options : OptionsOf C FP B = record before.options { cmp = cmp } in
         WalksStore keys env (table_options (formats_of choices options) options) before.store from before.tables sequence moves given result to left)

@@ -14,7 +14,7 @@ use Rattle.leveldb_iter.specs.declared.moves.Step.TheVariants.{At, Invalid, Refu
 use Rattle.leveldb_files.specs.Stores.Format.{Meaning}
 use Rattle.leveldb_store.specs.Writing.Room.{HasFailed}
 use Rattle.leveldb_store.specs.Reading.View.{IsOfNoCompressor, MakesMoves, MoveFails, any_in_order}
-use Rattle.rusty_leveldb.specs.Machines.Causes.{Cause, MoveComes, MoveMisfits, Setting, bad_operand, device_failed, lacks_compressor, out_of_memory}
+use Rattle.rusty_leveldb.specs.Machines.Causes.{Cause, IsMoveCausedBy, MoveMisfits, Setting, bad_operand, device_failed, lacks_compressor, out_of_memory}
 use Rattle.rusty_leveldb.specs.Machines.Machine as steps
 use Rattle.rusty_leveldb.specs.Machines.Machine.{Moves, position_after}
 use Rattle.rusty_leveldb.specs.Engines.Serves.{refusal_of, setting_between}
@@ -42,7 +42,7 @@ long_of (Seek key) misfits = misfits
 module _ (setting : Setting) (old : State) (at : Option Snapshot) (asked : List machine.Move) (status : Status) where
   -- a move is refused for a cause
   abbrev IsExcused : Move → Type 0
-  IsExcused one = (cause : Cause) × MoveComes setting old (machine.walk at asked) (move_of one) (refusal_of status) cause
+  IsExcused one = (cause : Cause) × IsMoveCausedBy setting old (machine.walk at asked) (move_of one) (refusal_of status) cause
 
   by_memory : (one : Move) → IsOutOfMemory status → IsExcused one
   by_memory First out = (out_of_memory, (tt, out.0, ap text_of out.1))
@@ -87,7 +87,7 @@ module _ (cmp : List ℕ → List ℕ → Ordering) (pairs : List Pair) (old : S
   lands : (one : Move) (step : Step) (position next : Option ℕ) (from to : ℕ)
       → LandsAt (any_in_order cmp) pairs position one step next
       → IsRefusedFor step one (MoveFails (IsOfNoCompressor old.format meaning) from to one)
-      → steps.MovesTo (setting_between meaning from to) old (machine.walk at asked) pairs position (move_of one) (landing_of step) next
+      → steps.MoveLands (setting_between meaning from to) old (machine.walk at asked) pairs position (move_of one) (landing_of step) next
   lands one (At key value) position next from to leads short = (
     λ misfits. short (long_of one misfits),
     leads.0 ∙ same_position one (any_in_order cmp) old.format.order pairs position order_is,

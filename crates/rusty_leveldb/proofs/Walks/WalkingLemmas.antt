@@ -22,7 +22,7 @@ use Rattle.leveldb_store.specs.Reading.View.{IsOfNoCompressor, MakesMoves, Walks
 use Rattle.leveldb_store.specs.Keeping.Written.{IsWritten, HasView}
 use Rattle.rusty_leveldb.specs.Engines.Boxes.{EngineOf, InternalOrder}
 use Rattle.rusty_leveldb.specs.Machines.Causes.{IsNotHeld, Setting, bad_operand, out_of_memory}
-use Rattle.rusty_leveldb.specs.Engines.Engine.{Answers, AnswersStill, Recalls, RefusedAsClosed, ShowsViews, held_in, options_in, scene, tables_by, ReadsAt}
+use Rattle.rusty_leveldb.specs.Engines.Engine.{Answers, AnswersStill, Recalls, RefusedAsClosed, ShowsViews, held_in, engine_options, scene, tables_by, IsEngineSequence}
 use Rattle.rusty_leveldb.specs.Engines.Frame.{MayTouch}
 use Rattle.rusty_leveldb.specs.Machines.Machine.{IsSequenceOf, Responds, Step, risk_between}
 use Rattle.rusty_leveldb.specs.Engines.Serves.{TakesStep, IsSpared, Reads, Represents, refusal_of, setting_between}
@@ -93,27 +93,27 @@ module _ {E C FP F : Type 0} {B : Boxed} (keys : InternalOrder C) (env : Ghosts 
 
     -- ---- moves of a walk
 
-    module _ (sequence : ℕ) (reads_at : ReadsAt before at sequence) (from to : E) (left : TableCache E C FP F) (given : List Landed) (result : Result (Unit {0}) Status)
+    module _ (sequence : ℕ) (reads_at : IsEngineSequence before at sequence) (from to : E) (left : TableCache E C FP F) (given : List Landed) (result : Result (Unit {0}) Status)
         (walks : WalksStore keys env (tables_by formats before) before.store from before.tables sequence moves given result to left) where
       -- the engine in the end
       abbrev after : EngineOf E C FP F B
-      after = record before { options = options_in before; tables = left }
+      after = record before { options = engine_options before; tables = left }
 
       module _ (store : List ℕ) (meaning : Meaning) (modelled : IsTrue env.models_disk) (old : State)
           (was : Represents store meaning (Recalls keys env formats store meaning) (Some before) (env.observed from).disk old) where
         not_closed : old.mode ≡ machine.closed → ⊥
         not_closed is = usable (was.memory_is.mode ∙ is)
 
-        same_format : formats (options_in before) ≡ old.format
+        same_format : formats (engine_options before) ≡ old.format
         same_format = was.memory_is.format not_closed
 
-        agrees : Agrees (formats (options_in before)) meaning
+        agrees : Agrees (formats (engine_options before)) meaning
         agrees = subst (λ (f : Format). Agrees f meaning) (sym same_format) (was.disk_is.agrees not_closed)
 
         shown : ShowsViews meaning before.store (env.observed from).disk.files old
         shown = was.memory_is.shows not_closed
 
-        shows : HasView (formats (options_in before)).order meaning before.store (env.observed from).disk.files old.history shown.since
+        shows : HasView (formats (engine_options before)).order meaning before.store (env.observed from).disk.files old.history shown.since
         shows = subst (λ (f : Format). HasView f.order meaning before.store (env.observed from).disk.files old.history shown.since) (sym same_format) shown.shows
 
         has_open : HasOpenTables keys env (tables_by formats before) before.store from before.tables
@@ -129,7 +129,7 @@ module _ {E C FP F : Type 0} {B : Boxed} (keys : InternalOrder C) (env : Ghosts 
         last_is = was.memory_is.last not_closed
 
         -- it is the number of the request, from which on the history is shown
-        reads_in : (snapshot : Option Snapshot) → ReadsAt before snapshot sequence
+        reads_in : (snapshot : Option Snapshot) → IsEngineSequence before snapshot sequence
             → IsSequenceOf old snapshot sequence × (IsNotHeld old.held snapshot → ⊥) × (shown.since ≤ sequence)
         reads_in None is = (
           is ∙ last_is,
@@ -147,14 +147,14 @@ module _ {E C FP F : Type 0} {B : Boxed} (keys : InternalOrder C) (env : Ghosts 
         setting = setting_between meaning (env.failures from) (env.failures to)
 
         -- the moves of the machine, over its view
-        walked_in : (pairs : List Pair) → IsView (formats (options_in before)).order (entries_of old.history) sequence pairs
-            → MakesMoves (formats (options_in before)).order (IsOfNoCompressor (formats (options_in before)) meaning) pairs None
+        walked_in : (pairs : List Pair) → IsView (formats (engine_options before)).order (entries_of old.history) sequence pairs
+            → MakesMoves (formats (engine_options before)).order (IsOfNoCompressor (formats (engine_options before)) meaning) pairs None
             (env.failures from) moves given (env.failures to)
             → Responds setting old request (walked (map landing_of given)) old
         walked_in pairs view made =
             let read = reads_in at reads_at in
-            let order_is : old.format.order ≡ (formats (options_in before)).order = sym (ap (λ (f : Format). f.order) same_format) in
-            let moves_in = subst (λ (f : Format). MakesMoves (formats (options_in before)).order (IsOfNoCompressor f meaning) pairs None
+            let order_is : old.format.order ≡ (formats (engine_options before)).order = sym (ap (λ (f : Format). f.order) same_format) in
+            let moves_in = subst (λ (f : Format). MakesMoves (formats (engine_options before)).order (IsOfNoCompressor f meaning) pairs None
             (env.failures from) moves given (env.failures to)) same_format made in (
               record { operands = read.1; numbers = λ never. never },
               (
@@ -163,15 +163,15 @@ module _ {E C FP F : Type 0} {B : Boxed} (keys : InternalOrder C) (env : Ghosts 
                   at_is = read.0;
                   pairs = pairs;
                   view = subst (λ (f : Format). IsView f.order (entries_of old.history) sequence pairs) same_format view;
-                  moves_are = moves_are (formats (options_in before)).order pairs old order_is meaning at (map move_of moves) moves given None (env.failures from) (env.failures to) moves_in;
+                  moves_are = moves_are (formats (engine_options before)).order pairs old order_is meaning at (map move_of moves) moves given None (env.failures from) (env.failures to) moves_in;
                 },
                 refl,
               ),
             )
 
         responds_with : (r : Result (Unit {0}) Status)
-            → OnOk r ((pairs : List Pair) × IsView (formats (options_in before)).order (entries_of old.history) sequence pairs
-            × MakesMoves (formats (options_in before)).order (IsOfNoCompressor (formats (options_in before)) meaning) pairs None
+            → OnOk r ((pairs : List Pair) × IsView (formats (engine_options before)).order (entries_of old.history) sequence pairs
+            × MakesMoves (formats (engine_options before)).order (IsOfNoCompressor (formats (engine_options before)) meaning) pairs None
             (env.failures from) moves given (env.failures to))
             → IfErr r IsOutOfMemory → Responds setting old request (walked_or given r) old
         responds_with (Ok done) over out = walked_in over.0 over.1 over.2

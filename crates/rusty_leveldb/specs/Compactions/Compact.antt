@@ -15,7 +15,7 @@ use Rattle.leveldb_files.specs.Levels.Overlap.{named_range}
 use Rattle.leveldb_version.specs.Tables.TableCache.{table_options}
 use Rattle.leveldb_version.specs.declared.table_cache.TableCache.{TableCache}
 use Rattle.rusty_leveldb.specs.Engines.Boxes.{EngineOf, InternalOrder}
-use Rattle.rusty_leveldb.specs.Engines.Engine.{formats_of, options_in, tables_by}
+use Rattle.rusty_leveldb.specs.Engines.Engine.{formats_of, engine_options, tables_by}
 use Rattle.rusty_leveldb.specs.Engines.EngineValue.{FollowsStore}
 use Rattle.rusty_leveldb.specs.Machines.State.{Opening}
 
@@ -25,7 +25,7 @@ abbrev pub ChangesStore : {E C FP F : Type 0} {B : Boxed} → EngineOf E C FP F 
     → EngineOf E C FP F B → Type 0
 ChangesStore before after = after ≡ record before {
   store = after.store;
-  options = record (options_in before) { log = after.options.log };
+  options = record (engine_options before) { log = after.options.log };
   tables = after.tables;
   mode = after.mode;
 }
@@ -40,10 +40,10 @@ pub record EngineCompactsStore {E C FP F P : Type 0} {B : Boxed} {keys : Interna
   pub smallest : ℕ
   pub is_smallest : IsSmallestHeld before.snapshots.held before.store.set.last_sequence smallest
   pub compacts : CompactsRange keys env (tables_by (formats_of choices) before) before.store from
-      before.tables (choices (options_in before)) smallest (named_range low high) result after.store
-      to after.tables
+      before.tables (choices (engine_options before)) smallest (named_range low high) result
+      after.store to after.tables
   -- what was in memory is there, or was in a table before anything was compacted
-  pub entries : CompactsMemtables env (formats_of choices (options_in before)) before.store from
+  pub entries : CompactsMemtables env (formats_of choices (engine_options before)) before.store from
       after.store to
   -- nothing else of the engine changes but the sink of the options' log, and its mode
   pub rest : ChangesStore before after

@@ -34,7 +34,7 @@ use Rattle.leveldb_files.specs.Levels.Overlap.{named_range}
 use Rattle.rusty_leveldb.specs.Machines.Causes.{IsLongBatch}
 use Rattle.rusty_leveldb.specs.Machines.State.{Opening, Request, Snapshot, State, open_mode, open_store, write, get, get_snapshot, release_snapshot, flush, compact_range, close, abandon}
 use Rattle.rusty_leveldb.specs.Engines.Serves.{AreReadAs, done_or, found_or, given_engine, snapshot_of, snapshot_or}
-use Rattle.rusty_leveldb.specs.Engines.Engine.{IsClosed, IsBroken, IsClosedOrBroken, ReadsAt, RefusedByMode, AnswersAs, Answers, WriteExcused, SyncExcused, CloseExcused, CompactExcused, GetExcused, GetFails, SnapshotExcused, ReleaseExcused, WalkExcused, IsStoreName, IsOpening, HasOwnLock, formats_of, holds_lock, options_in, tables_by}
+use Rattle.rusty_leveldb.specs.Engines.Engine.{IsClosed, IsBroken, IsClosedOrBroken, IsEngineSequence, RefusedByMode, AnswersAs, Answers, WriteExcused, SyncExcused, CloseExcused, CompactExcused, GetExcused, GetFails, SnapshotExcused, ReleaseExcused, WalkExcused, IsStoreName, IsOpening, HasOwnLock, formats_of, holds_lock, engine_options, tables_by}
 use Rattle.rusty_leveldb.specs.Engines.Frame.{IsOwn, IsSyncing, MayTouchOrLog, SameBytes, Spares}
 use Rattle.rusty_leveldb.specs.Machines.Machine.{AllDurable, Closes, Gives, Keeps, Opens, Releases, Writes, risk_of}
 use Rattle.rusty_leveldb.specs.Engines.Room.{EngineMakesRoom, LogsRoom, KeepsOrCompacts, entries_added}
@@ -121,8 +121,8 @@ module _ {E C FP F : Type 0} {B : Boxed} where
 
   -- there is no immutable memtable; or it is the one that there was, where the memtable that is
   -- written to wasn't full
-  abbrev pub OneWaitsAtMost : EngineOf E C FP F B → EngineOf E C FP F B → Type 0
-  OneWaitsAtMost before after = (after.store.imm ≡ None)
+  abbrev pub MakesNoImm : EngineOf E C FP F B → EngineOf E C FP F B → Type 0
+  MakesNoImm before after = (after.store.imm ≡ None)
       ⊎ ((IsMemtableFull before → ⊥) × (after.store.imm ≡ before.store.imm))
 
   -- a sync leaves all that is in memory, but for whether the log's writer is broken
@@ -182,23 +182,23 @@ module _ {E C FP F P : Type 0} {B : Boxed} {keys : InternalOrder C} {key_filters
         × IsErrAnd result (λ e. (e.code ≡ InvalidArgument) ⊎ IsOutOfMemory e)
     -- Ok leaves the mode, and the batch is in the memtable, which had room
     pub written : OnOk result ((after.mode ≡ before.mode) × WritesIntoRoom before items after)
-    pub waits : OnOk result (OneWaitsAtMost before after)
+    pub waits : OnOk result (MakesNoImm before after)
     -- Ok, where the memtable was full: tables of memtables were logged, and a compaction after them
     -- where a level's score asks for it
     pub logs : OnOk result (IsMemtableFull before
-        → LogsRoom (formats_of choices (options_in before)).order before.store.set
+        → LogsRoom (formats_of choices (engine_options before)).order before.store.set
         (record after.store.set { last_sequence = before.store.set.last_sequence }))
     -- Err leaves what memory shows, and the mode, or a broken store
     pub failed : OnErr result (KeepsModeOrBreaks before after × KeepsMemory before after)
     -- Ok or Err, and whatever the files are: what was in memory, and the batch if it was written,
     -- is in memory, or in tables that were added, of which one compaction may have taken some
-    pub entries : KeepsOrCompacts env (formats_of choices (options_in before))
+    pub entries : KeepsOrCompacts env (formats_of choices (engine_options before))
         (entries_added result (next_batch before.store items)) before.store from after.store to
     -- an Err came before the batch was appended to the log, or broke the store
     pub breaks : OnErr result (IsBroken after.mode ⊎ AppendsNothing to)
     -- the same snapshots are held, and the options stay, but for the sink of their log
     pub snapshots : after.snapshots ≡ before.snapshots
-    pub options : ChangesLoggerOnly (options_in before) (options_in after)
+    pub options : ChangesLoggerOnly (engine_options before) (engine_options after)
     -- in any state of the disk it leaves this alone, and no moment is taken back
     pub rest : LeavesRest env before from (write items sync) result after to
     pub time : TimeGoesOn env from to
@@ -223,7 +223,7 @@ module _ {E C FP F P : Type 0} {B : Boxed} {keys : InternalOrder C} {key_filters
         × (IsClosedOrBroken after.mode ⊎ IsOutOfMemory e))
     pub memory : KeepsAllButWriter before after
     pub snapshots : after.snapshots ≡ before.snapshots
-    pub options : ChangesLoggerOnly (options_in before) (options_in after)
+    pub options : ChangesLoggerOnly (engine_options before) (engine_options after)
     pub rest : LeavesRest env before from flush result after to
     pub time : TimeGoesOn env from to
     -- an Ok counts no failure of the device; why it fails
@@ -253,8 +253,8 @@ module _ {E C FP F P : Type 0} {B : Boxed} {keys : InternalOrder C} {key_filters
     -- Ok or Err, and whatever the files are: what was in memory is in memory, or was in tables that
     -- were added, before anything was compacted, and no others; after that compactions are logged,
     -- one after another, and nothing else is done
-    pub entries : CompactsMemtables env (formats_of choices (options_in before)) before.store from
-        after.store to
+    pub entries : CompactsMemtables env (formats_of choices (engine_options before)) before.store
+        from after.store to
     -- Ok: no entry is in memory, all are in tables
     pub tables_made : OnOk result
         ((after.store.mem.entries ≡ []) × (after.store.imm ≡ None))
@@ -264,11 +264,11 @@ module _ {E C FP F P : Type 0} {B : Boxed} {keys : InternalOrder C} {key_filters
         → HasViewsInTables meaning after.store (env.observed to).disk.files state)
     -- Ok: no file overlaps the range in level 0 and those below it down to the deepest that had
     -- such a file at the beginning, which is level 1 at least and level 5 at most
-    pub clear : let order = (formats_of choices (options_in before)).order in
+    pub clear : let order = (formats_of choices (engine_options before)).order in
         OnOk result (AreClearOf order (named_range low high) (deepest_overlapped order
         (named_range low high) before.store.set.full.added) after.store.set.full.added)
     pub snapshots : after.snapshots ≡ before.snapshots
-    pub options : ChangesLoggerOnly (options_in before) (options_in after)
+    pub options : ChangesLoggerOnly (engine_options before) (engine_options after)
     pub rest : LeavesRest env before from (compact_range low high) result after to
     pub time : TimeGoesOn env from to
     -- why it fails
@@ -290,14 +290,14 @@ module _ {E C FP F P : Type 0} {B : Boxed} {keys : InternalOrder C} {key_filters
     -- over any files, Ok or Err: the value is that of memory, or else of the first table on the way
     -- that has the key; none on this way is passed over, and the first that can't be read is an Err
     pub way : IsNotLookedUp before from at key result after to
-        ⊎ ((sequence : ℕ) × ReadsAt before at sequence
+        ⊎ ((sequence : ℕ) × IsEngineSequence before at sequence
         × (GetsFromMemory keys env (tables_by (formats_of choices) before) before.store from
         before.tables sequence key result after.store to after.tables
         ⊎ GetsFromTables keys env (tables_by (formats_of choices) before) before.store from
         before.tables sequence key result after.store to after.tables))
     pub reads : IsReadOnly before after
     pub snapshots : after.snapshots ≡ before.snapshots
-    pub options : ChangesLoggerOnly (options_in before) (options_in after)
+    pub options : ChangesLoggerOnly (engine_options before) (engine_options after)
     pub rest : LeavesRest env before from (get at key) result after to
     pub time : TimeGoesOn env from to
     pub cause : GetFails keys env (formats_of choices) before from at key result to
@@ -316,7 +316,7 @@ module _ {E C FP F P : Type 0} {B : Boxed} {keys : InternalOrder C} {key_filters
     pub refused_by_mode : IsClosed before.mode → IsRefusedByMode before from result after to
     pub reads : IsReadOnly before after
     pub snapshots : after.snapshots ≡ before.snapshots
-    pub options : ChangesLoggerOnly (options_in before) (options_in after)
+    pub options : ChangesLoggerOnly (engine_options before) (engine_options after)
     pub rest : LeavesRest env before from (walk_of at moves) result after to
     pub time : TimeGoesOn env from to
     -- no failure is forgotten; it fails as a whole for none of the device, but its moves may
@@ -325,12 +325,12 @@ module _ {E C FP F P : Type 0} {B : Boxed} {keys : InternalOrder C} {key_filters
     -- over any files: where memory and the live tables show a history, the moves are made in its
     -- view, whatever the other files are
     pub way : IsNotWalked before from at given result after to
-        ⊎ ((sequence : ℕ) × ReadsAt before at sequence
+        ⊎ ((sequence : ℕ) × IsEngineSequence before at sequence
         × WalksStore keys env (tables_by (formats_of choices) before) before.store from
         before.tables sequence moves given result to after.tables)
     -- over whatever files, each move has a step, and one that failed a cause
     pub refused : OnOk result (Each (λ one step. IsRefusedFor step one
-        (MoveFails (λ e. IsTableFault (formats_of choices (options_in before)) e.code)
+        (MoveFails (λ e. IsTableFault (formats_of choices (engine_options before)) e.code)
         (env.failures from) (env.failures to) one)) moves given)
     -- without a walk there are no steps
     pub none : OnErr result (given ≡ [])
@@ -352,7 +352,7 @@ module _ {E C FP F P : Type 0} {B : Boxed} {keys : InternalOrder C} {key_filters
     pub snapshots : MatchResult result
         (λ one. AddsHeld before.store.set.last_sequence before.snapshots one after.snapshots)
         (λ e. after.snapshots ≡ before.snapshots)
-    pub options : ChangesLoggerOnly (options_in before) (options_in after)
+    pub options : ChangesLoggerOnly (engine_options before) (engine_options after)
     pub rest : LeavesRest env before from get_snapshot result after to
     pub cause : IfErr result (SnapshotExcused before)
 
@@ -373,7 +373,7 @@ module _ {E C FP F P : Type 0} {B : Boxed} {keys : InternalOrder C} {key_filters
     pub snapshots : MatchResult result
         (λ nothing. DropsHeld before.snapshots one after.snapshots)
         (λ e. after.snapshots ≡ before.snapshots)
-    pub options : ChangesLoggerOnly (options_in before) (options_in after)
+    pub options : ChangesLoggerOnly (engine_options before) (engine_options after)
     pub rest : LeavesRest env before from (release_snapshot (snapshot_of one)) result after to
     pub cause : IfErr result (ReleaseExcused before (snapshot_of one))
 
@@ -392,7 +392,7 @@ module _ {E C FP F P : Type 0} {B : Boxed} {keys : InternalOrder C} {key_filters
     pub failed : OnErr result (IsBroken after.mode ⊎ (IsClosed before.mode × IsClosed after.mode))
     pub memory : KeepsAllButWriter before after
     pub snapshots : after.snapshots ≡ before.snapshots
-    pub options : ChangesLoggerOnly (options_in before) (options_in after)
+    pub options : ChangesLoggerOnly (engine_options before) (engine_options after)
     pub rest : LeavesRest env before from close result after to
     pub time : TimeGoesOn env from to
     -- an Ok counts no failure of the device; why it fails
@@ -430,7 +430,7 @@ module _ {E C FP F : Type 0} {B : Boxed} (env : Ghosts E F)
       : Type 0 where
     pub mode : engine.mode ≡ open_mode
     -- it has the options, but for the sink of their log
-    pub options : ChangesLoggerOnly given (options_in engine)
+    pub options : ChangesLoggerOnly given (engine_options engine)
     -- its store is that of the name
     pub place : engine.store.set.store ≡ name
     pub lock : HasOwnLock engine

@@ -51,14 +51,14 @@ IsClosedOrBroken mode = IsClosed mode ⊎ IsBroken mode
 -- ---- the options
 
 -- the options of an engine: those of its last opening, in the order of its store
-abbrev pub options_in : {E C FP F : Type 0} {B : Boxed}
+abbrev pub engine_options : {E C FP F : Type 0} {B : Boxed}
     → EngineOf E C FP F B → OptionsOf C FP B
-options_in engine = record engine.options { cmp = engine.store.cmp }
+engine_options engine = record engine.options { cmp = engine.store.cmp }
 
 -- what its tables are opened with, where `formats` says of options which format they have
 abbrev pub tables_by : {E C FP F : Type 0} {B : Boxed}
     → (OptionsOf C FP B → Format) → EngineOf E C FP F B → TableOptions C FP
-tables_by formats engine = table_options (formats (options_in engine)) (options_in engine)
+tables_by formats engine = table_options (formats (engine_options engine)) (engine_options engine)
 
 -- ---- the lock
 
@@ -80,10 +80,10 @@ abbrev pub held_in : {E C FP F : Type 0} {B : Boxed}
 held_in engine = map snapshot_of engine.snapshots.held
 
 -- the number at which an engine reads: its last one, or that of a snapshot that it holds
-abbrev pub ReadsAt : {E C FP F : Type 0} {B : Boxed}
+abbrev pub IsEngineSequence : {E C FP F : Type 0} {B : Boxed}
     → EngineOf E C FP F B → Option Snapshot → ℕ → Type 0
-ReadsAt engine None n = n ≡ engine.store.set.last_sequence
-ReadsAt engine (Some one) n = Contains (held_in engine) one × (n ≡ one.sequence)
+IsEngineSequence engine None n = n ≡ engine.store.set.last_sequence
+IsEngineSequence engine (Some one) n = Contains (held_in engine) one × (n ≡ one.sequence)
 
 -- The snapshots of a list are those that a state holds, in the order in which they were given out.
 pub record HasSnapshots (snapshots : HeldSnapshots) (state : State) : Type 0 where
@@ -120,7 +120,7 @@ module _ {E C FP F : Type 0} {B : Boxed} (keys : InternalOrder C) (env : Ghosts 
     pub mode : engine.mode ≡ state.mode
     pub lock : engine.lock ≡ lock_path store
     pub path : engine.store.set.store ≡ store
-    pub format : (state.mode ≡ machine.closed → ⊥) → formats (options_in engine) ≡ state.format
+    pub format : (state.mode ≡ machine.closed → ⊥) → formats (engine_options engine) ≡ state.format
     pub named : (state.mode ≡ machine.closed → ⊥)
         → state.store ≡ made (Some state.format.order_name)
     pub last : (state.mode ≡ machine.closed → ⊥) → engine.store.set.last_sequence ≡ state.last
@@ -225,7 +225,7 @@ module _ {E C FP F P : Type 0} {B : Boxed} {keys : InternalOrder C} {key_filters
     (engine : EngineOf E C FP F B) (at : E) where
   -- the choices of its options
   abbrev choices_in : TableChoices keys key_filters
-  choices_in = choices (options_in engine)
+  choices_in = choices (engine_options engine)
 
   -- Why a write may fail where the device didn't: the store is closed or broken, the batch is too
   -- long, memory ran out, no numbers of entries are left, or the entries are too many in memory.
@@ -258,7 +258,7 @@ module _ {E C FP F : Type 0} {B : Boxed} (env : Ghosts E F) (formats : OptionsOf
     (engine : EngineOf E C FP F B) (at : E) where
   -- the format of its options
   abbrev format_in : Format
-  format_in = formats (options_in engine)
+  format_in = formats (engine_options engine)
 
   -- why a flush may fail where the device didn't: the store is closed or broken, memory ran out, or
   -- the log is lost

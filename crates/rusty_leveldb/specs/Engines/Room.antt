@@ -24,7 +24,7 @@ use Rattle.leveldb_store.specs.Reading.Read.{in_memory}
 use Rattle.leveldb_store.specs.Writing.Room.{IsFull}
 use Rattle.rusty_leveldb.specs.Engines.Boxes.{EngineOf, InternalOrder}
 use Rattle.rusty_leveldb.specs.Compactions.Compact.{ChangesStore}
-use Rattle.rusty_leveldb.specs.Engines.Engine.{formats_of, options_in, tables_by}
+use Rattle.rusty_leveldb.specs.Engines.Engine.{formats_of, engine_options, tables_by}
 use Rattle.rusty_leveldb.specs.Engines.EngineValue.{FollowsStore}
 
 -- What was logged: tables of memtables, which take no file away, and then at most one edit of a
@@ -91,8 +91,8 @@ pub record EngineMakesRoom {E C FP F P : Type 0} {B : Boxed} {keys : InternalOrd
   pub smallest : ℕ
   pub is_smallest : IsSmallestHeld before.snapshots.held before.store.set.last_sequence smallest
   pub makes : StoreMakesRoom keys env (tables_by (formats_of choices) before) before.store from
-      before.tables (choices (options_in before)) before.options.write_buffer_size smallest result
-      after.store to after.tables
+      before.tables (choices (engine_options before)) before.options.write_buffer_size smallest
+      result after.store to after.tables
   -- nothing else of the engine changes but the sink of the options' log, and its mode
   pub rest : ChangesStore before after
   pub sink : is_some after.options.log ≡ is_some before.options.log

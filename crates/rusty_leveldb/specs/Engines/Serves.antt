@@ -22,7 +22,7 @@ use Rattle.leveldb_files.specs.Steps.StoreSteps.{AppendedAreBytes}
 use Rattle.rusty_leveldb.specs.Machines.State.{State, IsState, closed, Request, Refusal, Answer, Snapshot, done, found, refused, snapshot}
 use Rattle.rusty_leveldb.specs.Machines.Causes.{Setting}
 use Rattle.rusty_leveldb.specs.Machines.Machine.{Step, StaysOr, Risk, risk_of}
-use Rattle.rusty_leveldb.specs.Machines.Runs.{Event, Run, last_moment, StopsAt}
+use Rattle.rusty_leveldb.specs.Machines.Runs.{Event, RunsEvents, last_moment, StopsAt}
 
 -- the order of users' keys in a store: that of the comparator that its files name
 abbrev pub order_of : Meaning → Store → List ℕ → List ℕ → Ordering
@@ -182,7 +182,7 @@ module _ (store : List ℕ) (meaning : Meaning) where
       pub events : List Event
       pub asked : IsConversation requests answers moments events
       pub new : State
-      pub run : Run meaning from.failures old events to.failures new
+      pub run : RunsEvents meaning from.failures old events to.failures new
       pub represents : Represents to.memory to.observed.disk new
       pub others : Spares store (IsOwn store) from.observed.disk to.observed.disk
       pub since : All (λ event. from.observed.moment ≤ event.moment) events

@@ -158,11 +158,11 @@ IsCausedBy setting old request refusal lacks_compressor =
     × LacksCompressor old.format setting.meaning
 
 -- the same of a move of a walk, which has an operand of its own; a reset is never refused
-abbrev pub MoveComes : Setting → State → Request → Move → Refusal → Cause → Type 0
-MoveComes setting old request reset refusal cause = ⊥
-MoveComes setting old request move refusal bad_operand =
+abbrev pub IsMoveCausedBy : Setting → State → Request → Move → Refusal → Cause → Type 0
+IsMoveCausedBy setting old request reset refusal cause = ⊥
+IsMoveCausedBy setting old request move refusal bad_operand =
     (refusal.code ≡ InvalidArgument) × MoveMisfits move
-MoveComes setting old request move refusal cause = IsCausedBy setting old request refusal cause
+IsMoveCausedBy setting old request move refusal cause = IsCausedBy setting old request refusal cause
 
 -- the refusal of a closed store
 abbrev pub IsClosedRefusal : Refusal → Type 0

@@ -16,7 +16,7 @@ use Rattle.rusty_leveldb.specs.Machines.State.{State, IsState, broken, closed, O
 use Rattle.leveldb_base.specs.KeyTypes.{IsLongKey}
 use Rattle.rusty_leveldb.specs.Machines.Causes.{Setting, Cause, TakesLock, IsLongBatch, IsCausedBy, IsClosedRefusal, IsBrokenRefusal}
 use Rattle.rusty_leveldb.specs.Machines.Machine.{IsSequenceOf, Step, StaysOr, risk_between, risk_of, Crashes}
-use Rattle.rusty_leveldb.specs.Machines.Runs.{Event, Run, setting_of, Ending, goes_on, crashes, Life, Lives, new_state}
+use Rattle.rusty_leveldb.specs.Machines.Runs.{Event, RunsEvents, setting_of, Ending, goes_on, crashes, Life, Lives, new_state}
 use Rattle.rusty_leveldb.specs.Engines.Serves.{Reads, StandsFor, IsSpared, AtEachMoment}
 
 -- ---- disks
@@ -112,11 +112,11 @@ abbrev pub BeginsWith : History → History → Type 0
 BeginsWith whole part = (more : History) × (whole ≡ part ++ more)
 
 -- these requests make the whole history durable, once they are done
-abbrev pub MakesDurable : Request → Answer → Type 0
-MakesDurable (write items sync) done = IsTrue sync
-MakesDurable flush done = Unit {0}
-MakesDurable close done = Unit {0}
-MakesDurable request answer = ⊥
+abbrev pub IsDoneSync : Request → Answer → Type 0
+IsDoneSync (write items sync) done = IsTrue sync
+IsDoneSync flush done = Unit {0}
+IsDoneSync close done = Unit {0}
+IsDoneSync request answer = ⊥
 
 -- whatever lives follow, the history begins with the batches that were durable
 abbrev pub DurableStays : Type 0
@@ -129,7 +129,7 @@ DurableStays = (meaning : Meaning) (lives : List Life) (before after : ℕ)
 abbrev pub SyncedStays : Type 0
 SyncedStays = (meaning : Meaning) (setting : Setting) (old next last : State)
     (request : Request) (answer : Answer) (lives : List Life) (before after : ℕ)
-    → IsState old → Step old.mode setting old request answer next → MakesDurable request answer
+    → IsState old → Step old.mode setting old request answer next → IsDoneSync request answer
     → Lives meaning before next lives after last → BeginsWith last.history next.history
 
 -- an answer came by the end of its life
@@ -208,7 +208,7 @@ HistoryIsPlaced = (meaning : Meaning) (format : Format) (lives : List Life) (aft
 abbrev pub MoreIsAsked : Type 0
 MoreIsAsked = (meaning : Meaning) (setting : Setting) (old next last : State)
     (request : Request) (answer : Answer) (lives : List Life) (before after : ℕ)
-    → IsState old → Step old.mode setting old request answer next → MakesDurable request answer
+    → IsState old → Step old.mode setting old request answer next → IsDoneSync request answer
     → Lives meaning before next lives after last
     → (more : History) × (last.history ≡ next.history ++ more)
     × IsSubsequence (batches_of more) (asked_in lives) × All IsPlaced more
@@ -241,7 +241,7 @@ NoneOpens events = All (λ event. TakesLock event.request → ⊥) events
 -- Until the store is opened again, the view at each number up to the last one stays as it is.
 abbrev pub ViewsStay : Type 0
 ViewsStay = (meaning : Meaning) (events : List Event) (before after : ℕ) (old last : State)
-    → IsState old → NoneOpens events → Run meaning before old events after last
+    → IsState old → NoneOpens events → RunsEvents meaning before old events after last
     → (s : ℕ) → s ≤ old.last → SameView (entries_of old.history) (entries_of last.history) s
 
 -- requests after which a snapshot may not be held any more
@@ -256,7 +256,8 @@ MayRelease one request = ⊥
 abbrev pub HeldStays : Type 0
 HeldStays = (meaning : Meaning) (events : List Event) (before after : ℕ) (old last : State)
     (one : Snapshot) → All (λ event. MayRelease one event.request → ⊥) events
-    → Run meaning before old events after last → Contains old.held one → Contains last.held one
+    → RunsEvents meaning before old events after last
+    → Contains old.held one → Contains last.held one
 
 -- A snapshot is given out after a look-up of a key. Whatever requests but an opening come then, a
 -- look-up of the key at the snapshot finds what that one found, if it isn't refused.
@@ -266,7 +267,7 @@ SnapshotIsRead = (meaning : Meaning) (first second later : Setting) (old taken l
     (before after : ℕ)
     → IsState old → Step old.mode first old (get None key) (found earlier) old
     → Step old.mode second old get_snapshot (snapshot one) taken
-    → NoneOpens events → Run meaning before taken events after last
+    → NoneOpens events → RunsEvents meaning before taken events after last
     → Step last.mode later last (get (Some one) key) (found now) new → now ≡ earlier
 
 -- ---- what a walk gives

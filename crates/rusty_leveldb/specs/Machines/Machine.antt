@@ -7,7 +7,7 @@ use Rattle.leveldb_base.specs.Types.{Pair, position_within, next_position, previ
 use Rattle.leveldb_files.specs.Stores.Contents.{Store, missing, made}
 use Rattle.leveldb_store.specs.Writing.Room.{HasFailed}
 use Rattle.rusty_leveldb.specs.Machines.State.{Mode, open_mode, broken, closed, Snapshot, Opening, State, Move, seek_to_first, advance, prev, seek, reset, Request, open_store, write, get, walk, get_snapshot, release_snapshot, flush, compact_range, close, abandon, Refusal, Landing, stands_on, nowhere, move_refused, Answer, done, found, walked, snapshot, refused}
-use Rattle.rusty_leveldb.specs.Machines.Causes.{Setting, Cause, out_of_memory, device_failed, lock_is_held, bad_operand, store_exists, used_up, Fits, MoveMisfits, IsCausedBy, MoveComes, IsClosedRefusal, IsBrokenRefusal}
+use Rattle.rusty_leveldb.specs.Machines.Causes.{Setting, Cause, out_of_memory, device_failed, lock_is_held, bad_operand, store_exists, used_up, Fits, MoveMisfits, IsCausedBy, IsMoveCausedBy, IsClosedRefusal, IsBrokenRefusal}
 
 -- ---- writing
 
@@ -173,15 +173,15 @@ position_after order pairs position reset = None
 
 -- A move leads where an iterator over the pairs goes. One that is refused has a cause in what
 -- befell this very move, and leaves no position.
-abbrev pub MovesTo : Setting → State → Request → List Pair → Option ℕ → Move → Landing → Option ℕ
+abbrev pub MoveLands : Setting → State → Request → List Pair → Option ℕ → Move → Landing → Option ℕ
     → Type 0
-MovesTo setting old request pairs position move (stands_on pair) next = (MoveMisfits move → ⊥)
+MoveLands setting old request pairs position move (stands_on pair) next = (MoveMisfits move → ⊥)
     × (next ≡ position_after old.format.order pairs position move)
     × (pair_at pairs next ≡ Some pair)
-MovesTo setting old request pairs position move nowhere next = (MoveMisfits move → ⊥)
+MoveLands setting old request pairs position move nowhere next = (MoveMisfits move → ⊥)
     × (position_after old.format.order pairs position move ≡ None) × (next ≡ None)
-MovesTo setting old request pairs position move (move_refused refusal) next =
-    ((cause : Cause) × MoveComes setting old request move refusal cause) × (next ≡ None)
+MoveLands setting old request pairs position move (move_refused refusal) next =
+    ((cause : Cause) × IsMoveCausedBy setting old request move refusal cause) × (next ≡ None)
 
 -- moves, one after another, each with the setting from the end of the one before to its own
 abbrev pub Moves : Setting → State → Request → List Pair → Option ℕ → List Move → List Landing
@@ -189,7 +189,7 @@ abbrev pub Moves : Setting → State → Request → List Pair → Option ℕ �
 Moves setting old request pairs position [] [] = setting.after ≡ setting.before
 Moves setting old request pairs position (move ∷ moves) (landing ∷ landings) =
     (mid : ℕ) × (setting.before ≤ mid) × (next : Option ℕ)
-    × MovesTo (record setting { after = mid }) old request pairs position move landing next
+    × MoveLands (record setting { after = mid }) old request pairs position move landing next
     × Moves (record setting { before = mid }) old request pairs next moves landings
 Moves setting old request pairs position _ _ = ⊥
 

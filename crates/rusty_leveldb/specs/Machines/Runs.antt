@@ -25,11 +25,11 @@ setting_of meaning failures event =
 module _ (meaning : Meaning) where
   -- from so many failures and the old state on these events come, one after another, up to so many
   -- failures and the new state
-  abbrev pub Run : ℕ → State → List Event → ℕ → State → Type 0
-  Run before old [] after new = (after ≡ before) × (new ≡ old)
-  Run before old (event ∷ events) after new = (before ≤ event.failures) × (next : State)
+  abbrev pub RunsEvents : ℕ → State → List Event → ℕ → State → Type 0
+  RunsEvents before old [] after new = (after ≡ before) × (new ≡ old)
+  RunsEvents before old (event ∷ events) after new = (before ≤ event.failures) × (next : State)
       × Step old.mode (setting_of meaning before event) old event.request event.answer next
-      × Run event.failures next events after new
+      × RunsEvents event.failures next events after new
 
 -- ---- crashes
 
@@ -55,7 +55,7 @@ module _ (meaning : Meaning) where
   CrashBefore last_answer moment inside failures state (event ∷ later) end last new =
       (failures ≤ event.failures) × (next : State)
       × Step state.mode (setting_of meaning failures event) state event.request event.answer next
-      × Run meaning event.failures next later end last
+      × RunsEvents meaning event.failures next later end last
       × CrashesIn last_answer moment inside state event.request next new
 
   -- Of the events from a start on, what was answered by a moment happened; a crash comes then,
@@ -70,7 +70,7 @@ module _ (meaning : Meaning) where
     pub not_yet : All (λ event. moment < event.moment) undone
     pub failures : ℕ
     pub state : State
-    pub run : Run meaning before old done failures state
+    pub run : RunsEvents meaning before old done failures state
     pub crash : CrashBefore (last_moment start done) moment inside failures state undone end last
         new
 
@@ -106,7 +106,8 @@ pub record Life : Type 0 where
 module _ (meaning : Meaning) where
   -- the life runs to its end; what comes after it begins there, or where the crash left it
   abbrev pub LifeLeads : ℕ → ℕ → State → List Event → Ending → ℕ → State → Type 0
-  LifeLeads start before old events goes_on after new = Run meaning before old events after new
+  LifeLeads start before old events goes_on after new =
+      RunsEvents meaning before old events after new
   LifeLeads start before old events (crashes moment inside counted) after new =
       ((end : ℕ) × (last : State)
       × StopsAt meaning start before old events moment inside end last new)

@@ -156,6 +156,6 @@ abbrev pub reply_lines : List Reply → List ℕ
 reply_lines replies = flat_map reply_text replies
 
 -- a text grew by this one; where it was refused, by some
-abbrev pub Appends : List ℕ → List ℕ → Result (Unit {0}) AllocError → List ℕ → Type 0
-Appends before after result text = (more : List ℕ) × (after ≡ before ++ more)
+abbrev pub OutputGrows : List ℕ → List ℕ → Result (Unit {0}) AllocError → List ℕ → Type 0
+OutputGrows before after result text = (more : List ℕ) × (after ≡ before ++ more)
     × OnOk result (more ≡ text)

@@ -21,7 +21,6 @@ use Rattle.leveldb_env.specs.declared.filter.FilterPolicy.{Ghosts as FilterGhost
 use Rattle.leveldb_env.specs.Bloom.{bloom_matches}
 use Rattle.leveldb_env.specs.Compressor.{plain_codings}
 use Rattle.leveldb_store.specs.Tables.BuildTable.{TableChoices}
-use Rattle.leveldb_repair.specs.RepairStore.{WhyNotEnded}
 use Rattle.rusty_leveldb.specs.declared.shell.commands.Command.{Command}
 use Rattle.rusty_leveldb.specs.declared.shell.commands.Reply.{Reply}
 use Rattle.rusty_leveldb.specs.declared.shell.program.Fault.{Fault}
@@ -45,8 +44,8 @@ NamesFolder args (task.Run way.Alone) folder =
 NamesFolder args task.Repair folder = map string_bytes args ≡ codes "--repair" ∷ folder ∷ []
 
 -- they name no folder so
-abbrev pub NamesNone : List (String Global) → Type 0
-NamesNone args = (one : Task) (folder : List ℕ) → NamesFolder args one folder → ⊥
+abbrev pub NamesNoFolder : List (String Global) → Type 0
+NamesNoFolder args = (one : Task) (folder : List ℕ) → NamesFolder args one folder → ⊥
 
 -- they ask for a run of commands
 abbrev pub AskForRun : List (String Global) → Type 0
@@ -79,7 +78,7 @@ IsInputFault input (fault.Refused status) = ⊥
 
 -- a fault is the arguments', which name no folder, or the input's, or a call was refused
 abbrev pub IsFault : List (String Global) → Option (List ℕ) → Fault → Type 0
-IsFault args input fault.Usage = NamesNone args
+IsFault args input fault.Usage = NamesNoFolder args
 IsFault args input (fault.BadLine number) = IsInputFault input (fault.BadLine number)
 IsFault args input fault.TooLong = IsInputFault input fault.TooLong
 IsFault args input (fault.Unread status) = IsInputFault input (fault.Unread status)
@@ -165,7 +164,7 @@ module _ {E F : Type 0} (env : Ghosts E F) where
   -- choices
   abbrev pub HasRepaired : List ℕ → Opening → E → Result (Unit {0}) Status → E → Type 0
   HasRepaired folder asked from ended to =
-      Repairs env folder asked from (WhyNotEnded ldb_choices env folder from) ended to
+      Repairs env folder asked from ldb_choices ended to
 
   -- the store in a folder was repaired, and the output grew by the line that says so
   abbrev pub IsRepairAnswered : List ℕ → E → E → Option (List ℕ) → Option (List ℕ) → Type 0
@@ -216,7 +215,7 @@ module _ {E F : Type 0} (env : Ghosts E F) where
   pub record ChecksInput {I O : Type 0} (reads : ReadGhosts I) (args : List (String Global))
       (from : E) (input : I) (out : O) (status : ℕ) (to : E) (rest : I) (written : O) : Type 0 where
     -- where the arguments name no folder, the status is 2
-    pub usage : NamesNone args → status ≡ 2
+    pub usage : NamesNoFolder args → status ≡ 2
     -- where a line of the input is no command, or it is too long, nothing is done or written, and
     -- the status is that of such a fault: 2, or 1 where reading failed, or the memory for that
     pub bad : AskForRun args → IsBadInput (reads.remaining input) → (why : Fault)

@@ -37,16 +37,16 @@ RefusesOthers (command.Walk None moves) reply = Unit {0}
 RefusesOthers other reply = IsRefusedAlone reply
 
 -- the reply is of an answer that the machine gives to the request in this state, which stays
-abbrev pub TellsAnswer : Setting → State → Request → Reply → Type 0
-TellsAnswer setting state request reply =
+abbrev pub IsMachineReply : Setting → State → Request → Reply → Type 0
+IsMachineReply setting state request reply =
     (answer : Answer) × IsReplyOf [] reply answer × Responds setting state request answer state
 
 -- the reply to a command where a store is read alone that an opening would have left in this state
 abbrev pub IsAnsweredAlone : Setting → State → Command → Reply → Type 0
 IsAnsweredAlone setting state (command.Get key) reply =
-    TellsAnswer setting state (get None key.items) reply
+    IsMachineReply setting state (get None key.items) reply
 IsAnsweredAlone setting state (command.Walk None moves) reply =
-    TellsAnswer setting state (walk_of None moves.items) reply
+    IsMachineReply setting state (walk_of None moves.items) reply
 IsAnsweredAlone setting state other reply = IsRefusedAlone reply
 
 -- the replies to commands, one after another, each between the count of failed calls at the end of

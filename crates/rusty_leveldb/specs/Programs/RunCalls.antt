@@ -43,8 +43,9 @@ held_by (Err status) = []
 -- ---- one command
 
 -- the reply is of this answer, and no snapshot was given out
-abbrev pub IsTold : List HeldSnapshot → Answer → Reply → List HeldSnapshot → Type 0
-IsTold taken answer reply left = IsReplyOf (map snapshot_of taken) reply answer × (left ≡ taken)
+abbrev pub IsReplyAlone : List HeldSnapshot → Answer → Reply → List HeldSnapshot → Type 0
+IsReplyAlone taken answer reply left =
+    IsReplyOf (map snapshot_of taken) reply answer × (left ≡ taken)
 
 module _ {E C FP F P : Type 0} {B : Boxed} {keys : InternalOrder C} {key_filters : FilterGhosts P}
     (env : Ghosts E F) (choices : OptionsOf C FP B → TableChoices keys key_filters) where
@@ -53,42 +54,42 @@ module _ {E C FP F P : Type 0} {B : Boxed} {keys : InternalOrder C} {key_filters
   abbrev pub CallsEngine : EngineOf E C FP F B → E → List HeldSnapshot → Command → Reply
       → EngineOf E C FP F B → E → List HeldSnapshot → Type 0
   CallsEngine before from taken (command.Put key value) reply after to left =
-      (result : Result (Unit {0}) Status) × IsTold taken (done_or result) reply left
+      (result : Result (Unit {0}) Status) × IsReplyAlone taken (done_or result) reply left
       × EngineWrites env choices before from (item_of key.items (Some value.items) ∷ []) false
       result after to
   CallsEngine before from taken (command.Delete key) reply after to left =
-      (result : Result (Unit {0}) Status) × IsTold taken (done_or result) reply left
+      (result : Result (Unit {0}) Status) × IsReplyAlone taken (done_or result) reply left
       × EngineWrites env choices before from (item_of key.items None ∷ []) false result after to
   CallsEngine before from taken (command.Write sync items) reply after to left =
-      (result : Result (Unit {0}) Status) × IsTold taken (done_or result) reply left
+      (result : Result (Unit {0}) Status) × IsReplyAlone taken (done_or result) reply left
       × EngineWrites env choices before from (map change_of items.items) sync result after to
   CallsEngine before from taken (command.Get key) reply after to left =
-      (result : Result (Option (List ℕ)) Status) × IsTold taken (found_or result) reply left
+      (result : Result (Option (List ℕ)) Status) × IsReplyAlone taken (found_or result) reply left
       × EngineGets env choices before from None key.items result after to
   CallsEngine before from taken command.Snap reply after to left =
       (result : Result HeldSnapshot Status)
       × IsReplyOf (map snapshot_of taken) reply (snapshot_or result)
       × (left ≡ taken ++ held_by result) × EngineHolds env choices before from result after to
   CallsEngine before from taken (command.GetAt number key) reply after to left =
-      (result : Result (Option (List ℕ)) Status) × IsTold taken (found_or result) reply left
+      (result : Result (Option (List ℕ)) Status) × IsReplyAlone taken (found_or result) reply left
       × EngineGets env choices before from (Some (view_named taken number)) key.items result
       after to
   CallsEngine before from taken (command.Release number) reply after to left =
-      (result : Result (Unit {0}) Status) × IsTold taken (done_or result) reply left
+      (result : Result (Unit {0}) Status) × IsReplyAlone taken (done_or result) reply left
       × EngineReleases env choices before from (held_named taken number) result after to
   CallsEngine before from taken (command.Walk at moves) reply after to left =
       (given : List Step) × (result : Result (Unit {0}) Status)
-      × IsTold taken (walked_or given result) reply left
+      × IsReplyAlone taken (walked_or given result) reply left
       × EngineWalks env choices before from (option_map (view_named taken) at) moves.items given
       result after to
   CallsEngine before from taken (command.Compact low high) reply after to left =
-      (result : Result (Unit {0}) Status) × IsTold taken (done_or result) reply left
+      (result : Result (Unit {0}) Status) × IsReplyAlone taken (done_or result) reply left
       × EngineCompacts env choices before from low.items high.items result after to
   CallsEngine before from taken command.Flush reply after to left =
-      (result : Result (Unit {0}) Status) × IsTold taken (done_or result) reply left
+      (result : Result (Unit {0}) Status) × IsReplyAlone taken (done_or result) reply left
       × EngineFlushes env choices before from result after to
   CallsEngine before from taken command.Close reply after to left =
-      (result : Result (Unit {0}) Status) × IsTold taken (done_or result) reply left
+      (result : Result (Unit {0}) Status) × IsReplyAlone taken (done_or result) reply left
       × EngineCloses env choices before from result after to
 
   -- ---- commands in turn

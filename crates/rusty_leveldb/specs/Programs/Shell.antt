@@ -91,7 +91,7 @@ pub record AreAsked (commands : List Command) (replies : List Reply) (requests :
 -- ---- runs
 
 -- the run failed, since the store isn't one that is opened
-pub record IsUnopened {E F : Type 0} (env : Ghosts E F) (store : List ℕ) (asked : Opening)
+pub record IsStoreUnopened {E F : Type 0} (env : Ghosts E F) (store : List ℕ) (asked : Opening)
     (from : E) (ended : Result (Unit {0}) Status) (to : E) : Type 0 where
   pub lock : IsErrAnd ended
       (IsLockGivenBack env store asked from (IsNotKeptUnder asked.format) to)
@@ -130,7 +130,7 @@ module _ {E F : Type 0} (env : Ghosts E F) (store : List ℕ) where
     -- one that isn't to be made, or one that is there and must not be
     pub unopened : IsTrue env.models_disk
         → NeverOpens store asked (env.observed from).disk
-        → (given ≡ []) × IsUnopened env store asked from ended to
+        → (given ≡ []) × IsStoreUnopened env store asked from ended to
     -- under a name that is no store's no call is made, nor with options that don't fit
     pub misnamed : (IsStoreName store × IsTrue asked.fits × IsTrue asked.compresses → ⊥)
         → (to ≡ from) × (given ≡ []) × OnOk ended ⊥

@@ -4,18 +4,21 @@ use Rattle.std.specs.Prelude.{◌≡◌, ◌≢◌, ◌⊎◌, ℕ, false, List,
 use Rattle.std.specs.Str.{bytes_eq}
 use Rattle.leveldb_base.specs.Error.{IsOutOfMemory}
 use Rattle.leveldb_base.specs.History.{Entry, greatest}
+use Rattle.leveldb_base.specs.declared.cmp.Cmp.{Ghosts as CmpGhosts}
 use Rattle.leveldb_base.specs.declared.error.Status.{Status}
 use Rattle.leveldb_base.specs.declared.error.StatusCode.TheVariants.{InvalidArgument, LockError, NotSupported}
 use Rattle.leveldb_env.specs.Env.{BeforeOrAfter, Disk, Files, Run, created}
 use Rattle.leveldb_env.specs.declared.env.Env.{Ghosts}
+use Rattle.leveldb_env.specs.declared.filter.FilterPolicy.{Ghosts as FilterGhosts}
 use Rattle.leveldb_files.specs.Stores.Contents.{made}
 use Rattle.leveldb_files.specs.Stores.Format.{Agrees, Format, Meaning}
 use Rattle.leveldb_version.specs.Repairs.Found.{AreFound, HasNoTableNorLog, IsAnyTable}
 use Rattle.leveldb_files.specs.Stores.Paths.{current_path, lock_path}
 use Rattle.leveldb_files.specs.Steps.StoreSteps.{AppendedAreBytes}
+use Rattle.leveldb_store.specs.Tables.BuildTable.{TableChoices}
 use Rattle.leveldb_store.specs.Writing.Room.{FailsFor, HasFailed}
 use Rattle.leveldb_store.specs.Keeping.SoundCall.{BytesAreAppended}
-use Rattle.leveldb_repair.specs.RepairStore.{HoldsOldOrAllFound, HoldsAllFound, WhyNotRepaired}
+use Rattle.leveldb_repair.specs.RepairStore.{HoldsOldOrAllFound, HoldsAllFound, IsPartlyRepaired, WhyNotEnded, WhyNotRepaired}
 use Rattle.rusty_leveldb.specs.Engines.Engine.{IsStoreName}
 use Rattle.rusty_leveldb.specs.Engines.Frame.{IsOwn, Spares}
 use Rattle.rusty_leveldb.specs.Machines.Machine.{risk_between}
@@ -72,6 +75,15 @@ IsMomentOfLockedRepair store format meaning old now =
     BeforeOrAfter (created (lock_path store)) old now
     ⊎ HoldsOldOrAllFound store format meaning old now
 
+-- The same of its tables: the files are as they were, but that the lock's may be made; or each new
+-- table is a part of one of found entries.
+abbrev pub IsLockedOrPartlyRepaired : {C FP : Type 0} {order : CmpGhosts C}
+    {filters : FilterGhosts FP} → List ℕ → TableChoices order filters → Meaning → Files → Files
+    → Type 0
+IsLockedOrPartlyRepaired store choices meaning old now =
+    BeforeOrAfter (created (lock_path store)) old now
+    ⊎ IsPartlyRepaired choices store meaning old now
+
 -- ---- why it fails
 
 module _ {E F : Type 0} (env : Ghosts E F) (store : List ℕ) (asked : Opening) (from : E) where
@@ -112,10 +124,12 @@ module _ {E F : Type 0} (env : Ghosts E F) (store : List ℕ) (asked : Opening) 
         × (FailedBeside (RepairExcused to e) (env.failures from) (env.failures to)
         ⊎ (IsAllRepaired to × HasFailed (env.failures from) (env.failures to))))
 
-    -- ---- the call
+  -- ---- the call
 
+  module _ {C FP : Type 0} {order : CmpGhosts C} {filters : FilterGhosts FP}
+      (choices : TableChoices order filters) where
     -- A call that repairs the store under a name, as it is asked to by these options, whatever the
-    -- disk represents.
+    -- disk represents. New tables are made by these choices.
     pub record Repairs (result : Result (Unit {0}) Status) (to : E) : Type 0 where
       -- Ok: the files are a store of exactly the entries that were found, each whole
       pub ok : OnOk result (IsAllRepaired to)
@@ -143,6 +157,10 @@ module _ {E F : Type 0} (env : Ghosts E F) (store : List ℕ) (asked : Opening) 
       pub in_repair : IsTrue env.models_disk → (meaning : Meaning) → Agrees asked.format meaning
           → Run (IsMomentOfLockedRepair store asked.format meaning (env.observed from).disk.files)
           (env.observed from) (env.observed to)
+      -- its new tables are parts of such as have found entries alone
+      pub parts : IsTrue env.models_disk → (meaning : Meaning) → Agrees choices.format meaning
+          → Run (IsLockedOrPartlyRepaired store choices meaning (env.observed from).disk.files)
+          (env.observed from) (env.observed to)
       -- nothing is deleted, at any moment, and no file that was there changes but `CURRENT`
       pub kept : IsTrue env.models_disk
           → Run (LeavesOthers store (env.observed from).disk.files) (env.observed from)
@@ -157,7 +175,8 @@ module _ {E F : Type 0} (env : Ghosts E F) (store : List ℕ) (asked : Opening) 
           → (IsLockHeld store (env.observed from).disk → ⊥)
           × (IsLockHeld store (env.observed to).disk → ⊥))
       -- Err: it is given back, too
-      pub returned : IfErr result (λ e. IsTrue env.models_disk → IsLockReturned to e)
+      pub returned : IfErr result (λ e. IsTrue env.models_disk
+          → IsLockReturned (WhyNotEnded choices env store from) to e)
       -- under a name that is no store's nothing is repaired, and no call is made; nor with a size
       -- or a count past its limits, or without the compressor of new blocks
       pub misnamed : (IsStoreName store × IsTrue asked.fits × IsTrue asked.compresses → ⊥)
@@ -166,4 +185,5 @@ module _ {E F : Type 0} (env : Ghosts E F) (store : List ℕ) (asked : Opening) 
       pub bare : IsTrue env.models_disk → HasNoTableNorLog store (env.observed from).disk.files
           → OnOk result ⊥
       -- why it fails
-      pub cause : FailsFor (RepairExcused to) (env.failures from) (env.failures to) result
+      pub cause : FailsFor (RepairExcused (WhyNotEnded choices env store from) to)
+          (env.failures from) (env.failures to) result

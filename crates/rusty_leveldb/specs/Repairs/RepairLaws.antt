@@ -10,12 +10,13 @@ use Rattle.leveldb_env.specs.declared.filter.FilterPolicy.{Ghosts as FilterGhost
 use Rattle.leveldb_store.specs.Tables.BuildTable.{TableChoices}
 use Rattle.leveldb_files.specs.Stores.Format.{Agrees, Meaning}
 use Rattle.leveldb_files.specs.Histories.Holds.{IsHonest}
-use Rattle.leveldb_version.specs.Repairs.Repairing.{HasNoOtherFile}
+use Rattle.leveldb_version.specs.Repairs.Found.{IsAnyTable}
+use Rattle.leveldb_version.specs.Repairs.Repairing.{HasNoOtherFile, SameFound}
 use Rattle.leveldb_files.specs.Stores.Store.{HasEdits}
-use Rattle.leveldb_files.specs.Steps.StoreSteps.{AppendedAreBytes}
+use Rattle.leveldb_files.specs.Steps.StoreSteps.{AppendedAreBytes, IsKept}
 use Rattle.leveldb_files.specs.Edits.Edit.{Edit}
 use Rattle.leveldb_files.specs.Edits.VersionSet.{live_after}
-use Rattle.leveldb_repair.specs.RepairStore.{WhyNotEnded}
+use Rattle.leveldb_repair.specs.RepairLaws.{MakesUpNoTable, OnlyWholeIsReadable}
 use Rattle.rusty_leveldb.specs.Engines.Boxes.{EngineOf, InternalOrder}
 use Rattle.rusty_leveldb.specs.Engines.Calls.{EngineOpens}
 use Rattle.rusty_leveldb.specs.Engines.Engine.{IsOpening, formats_of}
@@ -33,7 +34,7 @@ abbrev pub OpensWhatRepairFound : {E C FP F P : Type 0} {B : Boxed} {keys : Inte
 OpensWhatRepairFound {E = E} {C = C} {FP = FP} {F = F} {B = B} {keys = keys} env choices options =
     (name : List ℕ) (given : OptionsOf C FP B) (asked wanted opening : Opening) (from mid to : E)
     (engine : EngineOf E C FP F B) (meaning : Meaning) (found : List Entry)
-    → Repairs env name asked from (WhyNotEnded (choices given) env name from) (Ok tt) mid
+    → Repairs env name asked from (choices given) (Ok tt) mid
     → EngineOpens env choices name options wanted mid (Ok engine) to
     → IsTrue env.models_disk → IsOpening name wanted opening
     → Agrees asked.format meaning → Agrees opening.format meaning
@@ -49,8 +50,8 @@ abbrev pub AnotherRepairFindsTheSame : {E F D P : Type 0} {keys : CmpGhosts D}
     {key_filters : FilterGhosts P} → Ghosts E F → TableChoices keys key_filters → Type 0
 AnotherRepairFindsTheSame {E = E} env choices = (name : List ℕ) (asked : Opening) (from mid to : E)
     (meaning : Meaning) (found : List Entry)
-    → Repairs env name asked from (WhyNotEnded choices env name from) (Ok tt) mid
-    → Repairs env name asked mid (WhyNotEnded choices env name mid) (Ok tt) to
+    → Repairs env name asked from choices (Ok tt) mid
+    → Repairs env name asked mid choices (Ok tt) to
     → IsTrue env.models_disk → Agrees asked.format meaning
     → AppendedAreBytes (env.observed from).disk.files
     → AreFoundIn name asked.format meaning (env.observed from).disk.files found
@@ -66,7 +67,7 @@ abbrev pub CrashSinceRepair : {E F D P : Type 0} {keys : CmpGhosts D} {key_filte
 CrashSinceRepair {E = E} env choices = (name : List ℕ) (asked : Opening) (from to : E)
     (result : Result (Unit {0}) Status) (meaning : Meaning) (old : State) (found : List Entry)
     (files : Files) (left : Disk)
-    → Repairs env name asked from (WhyNotEnded choices env name from) result to
+    → Repairs env name asked from choices result to
     → IsTrue env.models_disk
     → Agrees asked.format meaning → StandsFor name meaning (env.observed from).disk old
     → AreFoundIn name asked.format meaning (env.observed from).disk.files found
@@ -76,6 +77,33 @@ CrashSinceRepair {E = E} env choices = (name : List ℕ) (asked : Opening) (from
     (after : State)
     × (Crashes old (risk_between old) after ⊎ Crashes repaired (risk_between repaired) after)
     × StandsFor name meaning left after
+
+-- Of the files that a repair left, Ok or not, the same entries are found as of those before it, if
+-- no table is readable of which only a part is there.
+abbrev pub RepairsLoseNothing : {E F D P : Type 0} {keys : CmpGhosts D}
+    {key_filters : FilterGhosts P} → Ghosts E F → TableChoices keys key_filters → Type 0
+RepairsLoseNothing {E = E} env choices = (name : List ℕ) (asked : Opening) (from to : E)
+    (result : Result (Unit {0}) Status) (meaning : Meaning)
+    → Repairs env name asked from choices result to → IsTrue env.models_disk
+    → Agrees choices.format meaning
+    → OnlyWholeIsReadable choices name meaning (env.observed from).disk.files
+    (env.observed to).disk.files
+    → SameFound name (IsAnyTable choices.format.order meaning) (env.observed from).disk.files
+    (env.observed to).disk.files
+
+-- Wherever a crash comes since a repair began of files whose bytes were all kept, inside it or at
+-- its end, so it is of what is left, if the crash made up no table.
+abbrev pub CrashesOfRepairsLoseNothing : {E F D P : Type 0} {keys : CmpGhosts D}
+    {key_filters : FilterGhosts P} → Ghosts E F → TableChoices keys key_filters → Type 0
+CrashesOfRepairsLoseNothing {E = E} env choices = (name : List ℕ) (asked : Opening) (from to : E)
+    (result : Result (Unit {0}) Status) (meaning : Meaning) (files left : Files)
+    → Repairs env name asked from choices result to → IsTrue env.models_disk
+    → Agrees choices.format meaning
+    → ((path : List ℕ) → IsKept ((env.observed from).disk.files path))
+    → Since (env.observed to) (env.observed from).moment files left
+    → MakesUpNoTable choices name meaning (env.observed from).disk.files files left
+    → OnlyWholeIsReadable choices name meaning (env.observed from).disk.files left
+    → SameFound name (IsAnyTable choices.format.order meaning) (env.observed from).disk.files left
 
 -- The files have no table and no log but those that the store reads: whatever edits its manifest
 -- has, each table that is there is live, and each log is replayed.

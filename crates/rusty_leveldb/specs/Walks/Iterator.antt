@@ -23,7 +23,7 @@ use Rattle.leveldb_store.specs.Keeping.OpenStore.{OpenStoreValue}
 use Rattle.leveldb_store.specs.Reading.View.{FailsBetween, IsOfNoCompressor, IsReadingOf, IsWorldOf, ReadsAlone, ViewsStore, any_in_order, options_in}
 use Rattle.rusty_leveldb.specs.Engines.Boxes.{EngineOf, InternalOrder}
 use Rattle.rusty_leveldb.specs.Machines.Causes.{IsNotHeld}
-use Rattle.rusty_leveldb.specs.Engines.Engine.{IsClosed, Recalls, WalkExcused, held_in, options_in as engine_options}
+use Rattle.rusty_leveldb.specs.Engines.Engine.{IsClosed, Recalls, WalkExcused, held_in, engine_options}
 use Rattle.rusty_leveldb.specs.Machines.Machine.{IsSequenceOf}
 use Rattle.rusty_leveldb.specs.Engines.Serves.{Represents}
 use Rattle.rusty_leveldb.specs.Machines.State.{Snapshot, State}
@@ -38,8 +38,8 @@ abbrev pub no_cause : Status → Type 0
 no_cause status = ⊥
 
 -- the result of a move that can't fail
-abbrev pub moved : Result (Unit {0}) Status
-moved = Ok tt
+abbrev pub ok_move : Result (Unit {0}) Status
+ok_move = Ok tt
 
 module _ {E F C FP K V : Type 0} where
   -- what an iterator reads from: the environment, and a store's tables
@@ -53,10 +53,10 @@ module _ {E F C FP K V : Type 0} where
 
 -- why a move fails from one iterator to the next: out of memory, at a failure that was counted, for
 -- a cause of its own, or since a table can't be read, for this cause
-abbrev pub FailsMove : {E F C FP K V : Type 0} → Ghosts E F
+abbrev pub IteratorFails : {E F C FP K V : Type 0} → Ghosts E F
     → (Status → Type 0) → (Status → Type 0) → StoreIterator E C FP K V F
     → StoreIterator E C FP K V F → Status → Type 0
-FailsMove env Own Unreadable old new =
+IteratorFails env Own Unreadable old new =
     FailsBetween env (world_in old) (world_in new) (λ e. Own e ⊎ Unreadable e)
 
 -- an open store whose history an iterator shows: the format of its tables, and what names and ids
@@ -114,10 +114,10 @@ module _ {E F C FP K V : Type 0} (keys : InternalOrder C) (env : Ghosts E F) (cm
         → IteratesAt shown pairs position old → MatchResult result
         (λ _. IteratesAt shown pairs (way shown.format.order pairs position) new)
         (λ e. IteratesAt shown pairs None new
-        × FailsMove env Own (IsUnsupportedIn shown) old new e)
+        × IteratorFails env Own (IsUnsupportedIn shown) old new e)
     -- over whatever files it stays an iterator, and an error has a cause
     pub stays : (format : Format) → IsIterator format old → IsIterator format new
-        × IfErr result (FailsMove env Own (λ e. IsTableFault format e.code) old new)
+        × IfErr result (IteratorFails env Own (λ e. IsTableFault format e.code) old new)
     -- no file changes, nor does a lock, no failure is forgotten, and the cache is the same borrow
     pub keeps : (format : Format) → IsIterator format old
         → KeepsReading keys env cmp filters codings (world_in old) (world_in new)

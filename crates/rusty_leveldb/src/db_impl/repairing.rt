@@ -1,6 +1,5 @@
 //! Repairing a store whose files are lost or damaged.
 // LevelDB: db/repair.cc, RepairDB
-ghost use Rattle.leveldb_repair.specs.RepairStore.{WhyNotEnded};
 ghost use Rattle.leveldb_store.specs.Tables.BuildTable.{choices_of};
 ghost use Rattle.rusty_leveldb.specs.Engines.Engine.{opening_of};
 ghost use Rattle.rusty_leveldb.specs.Repairs.Repair.{Repairs};
@@ -40,8 +39,8 @@ use std::alloc::Global;
 /// Where the lock is held, or what was looked at isn't repaired for a cause of this table, no file
 /// has changed, but that the lock's may be made; after numbers or a compressor that fail while
 /// tables are written, some of these may be there. After any other error, and wherever a crash
-/// came, the files hold what they held, or what was found. Another repair finds the same: of one
-/// after an Ok this is proved, of one after an error or a crash it is tested.
+/// came, the files hold what they held, or what was found. Another repair finds the same, after an
+/// Ok, an error or a crash, where no table is readable that was cut as it was written.
 pub fn repair<E: Env, C: UserCmp + Copy, FP: FilterPolicy + Copy>(
     alloc: Global,
     name: &str,
@@ -50,9 +49,8 @@ pub fn repair<E: Env, C: UserCmp + Copy, FP: FilterPolicy + Copy>(
 ) -> Result<()>
     ensures { let codings = ⟦<CompressorList as Compressors>⟧.codings in
         Repairs E.Env name.now (opening_of C.Cmp FP.FilterPolicy codings opt) env.old
-        (WhyNotEnded (choices_of C.Cmp FP.FilterPolicy ⟦<InternalKeyCmp<C> as Cmp>⟧
-        ⟦<InternalFilterPolicy<FP> as FilterPolicy>⟧ codings opt) E.Env name.now env.old)
-        result env.new }
+        (choices_of C.Cmp FP.FilterPolicy ⟦<InternalKeyCmp<C> as Cmp>⟧
+        ⟦<InternalFilterPolicy<FP> as FilterPolicy>⟧ codings opt) result env.new }
 {
     check_name(alloc, name)?;
     opt.check(alloc)?;

@@ -66,8 +66,7 @@ impl<E: Env, S: Drop> Drop for Store<'_, E, S> {
     fn drop(self)
         ensures { self.exit.0.now ≡ self.entry.env.now }
     {
-        let Store { env, state } = self;
-        let _ = env;
+        let Store { env: _, state } = self;
         drop(state);
     }
 }

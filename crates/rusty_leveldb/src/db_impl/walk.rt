@@ -5,7 +5,7 @@ ghost use Rattle.leveldb_base.specs.declared.error.StatusCode.TheVariants.{Inval
 ghost use Rattle.leveldb_store.specs.Tables.BuildTable.{choices_of};
 ghost use Rattle.rusty_leveldb.specs.Engines.Calls.{EngineWalks};
 ghost use Rattle.rusty_leveldb.specs.Machines.Causes.{IsNotHeld};
-ghost use Rattle.rusty_leveldb.specs.Engines.Engine.{ReadsAt, held_in};
+ghost use Rattle.rusty_leveldb.specs.Engines.Engine.{IsEngineSequence, held_in};
 ghost use Rattle.rusty_leveldb.specs.Engines.Serves.{snapshot_of};
 
 use super::engine::Engine;
@@ -45,7 +45,7 @@ impl<E: Env, C: UserCmp + Copy, FP: FilterPolicy + Copy> Engine<E, C, FP> {
 
     // The number at which it is read: its last one, or that of a snapshot, which is to be held.
     pub(super) fn sequence_at(&self, at: Option<Snapshot>) -> Result<SequenceNumber>
-        ensures ok { IfOk result (ReadsAt self.now (option_map snapshot_of at)) }
+        ensures ok { IfOk result (IsEngineSequence self.now (option_map snapshot_of at)) }
         ensures cause { IfErr result (λ status. (status.code ≡ InvalidArgument)
             × IsNotHeld (held_in self.now) (option_map snapshot_of at)) }
     {

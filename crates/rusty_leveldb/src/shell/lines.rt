@@ -2,7 +2,7 @@
 ghost use Rattle.std.specs.Prelude.{◌≡◌, ◌≢◌, ◌∷◌, ◌++◌, [], ℕ, Bool, false, List, IfOk, MatchOption, codes};
 ghost use Rattle.hex.specs.Hex.{is_hex_digit};
 ghost use Rattle.rusty_leveldb.specs.Programs.Language.{sync_word, HasBytes, IsLine};
-ghost use Rattle.rusty_leveldb.specs.Programs.Spelling.{IsPairReading, IsItemReading, IsItemsReading, IsLineReading};
+ghost use Rattle.rusty_leveldb.specs.Programs.Readings.{IsPairReading, IsItemReading, IsItemsReading, IsLineReading};
 
 use super::commands::{Command, Item};
 use super::walks::read_walk;

@@ -4,7 +4,7 @@ ghost use Rattle.leveldb_base.specs.declared.error.Status.{Status};
 ghost use Rattle.std.specs.Io.KnownBytes.{Appends};
 ghost use Rattle.rusty_leveldb.specs.Programs.Language.{reply_lines};
 ghost use Rattle.rusty_leveldb.specs.Engines.Engine.{opening_of};
-ghost use Rattle.rusty_leveldb.specs.Programs.Program.{status_of, AskForRepair, AskForRun, ChecksInput, EndsProgram, HasRepaired, HasRunBy, IsBadInput, IsInputFault, IsRepairAnswered, IsInput, IsPlayed, IsAnswered, IsStopped, NamesFolder, NamesNone, StopsFor, ldb_opening};
+ghost use Rattle.rusty_leveldb.specs.Programs.Program.{status_of, AskForRepair, AskForRun, ChecksInput, EndsProgram, HasRepaired, HasRunBy, IsBadInput, IsInputFault, IsRepairAnswered, IsInput, IsPlayed, IsAnswered, IsStopped, NamesFolder, NamesNoFolder, StopsFor, ldb_opening};
 ghost use Rattle.rusty_leveldb.specs.declared.shell.commands.Reply.{Reply};
 ghost use Rattle.rusty_leveldb.specs.declared.shell.program.Fault.TheVariants.{Usage};
 
@@ -129,7 +129,7 @@ fn serve<E: Env, I: Read, O: Write>(
         (IsStopped E.Env args.now env.old env.new (I.remaining input.old)) }
     ensures fault { IfErr result
         (StopsFor args.now (I.remaining input.old) env.old out.old env.new out.new) }
-    ensures usage { NamesNone args.now → IsErrAnd result (λ fault. fault ≡ Usage) }
+    ensures usage { NamesNoFolder args.now → IsErrAnd result (λ fault. fault ≡ Usage) }
     ensures bad { AskForRun args.now → IsBadInput (I.remaining input.old) → IsErrAnd result
         (λ fault. IsInputFault (I.remaining input.old) fault × (env.new ≡ env.old)
         × (out.new ≡ out.old)) }
@@ -149,7 +149,7 @@ fn serve<E: Env, I: Read, O: Write>(
 
 // The folder that the arguments name, and what is done there.
 fn task_of(args: &[String]) -> Option<(Task, &str)>
-    ensures { MatchOption result (NamesNone args.now)
+    ensures { MatchOption result (NamesNoFolder args.now)
         (λ task. NamesFolder args.now task.0 task.1.now) }
 {
     match args {

@@ -1,6 +1,6 @@
 //! Replies as text.
 ghost use Rattle.std.specs.Prelude.{◌≡◌, ◌++◌, ℕ, List, length, take, flat_map, codes, decimal, OnOk, OnErr};
-ghost use Rattle.rusty_leveldb.specs.Programs.Language.{hex_word, refusal_line, step_line, reply_text, reply_lines, Appends};
+ghost use Rattle.rusty_leveldb.specs.Programs.Language.{hex_word, refusal_line, step_line, reply_text, reply_lines, OutputGrows};
 
 use super::commands::{Reply, Step};
 use super::words::put_word;
@@ -34,7 +34,7 @@ fn put_reply(out: &mut Vec<u8>, reply: &Reply) -> Result<(), AllocError>
 
 // Appends the lines of a reply to the text. Where it fails, part of them may be there.
 fn put_text(out: &mut Vec<u8>, reply: &Reply) -> Result<(), AllocError>
-    ensures { Appends out.old.items out.new.items result (reply_text reply.now) }
+    ensures { OutputGrows out.old.items out.new.items result (reply_text reply.now) }
 {
     match reply {
         Reply::Done => out.extend_from_slice(b"ok\n"),
@@ -48,7 +48,7 @@ fn put_text(out: &mut Vec<u8>, reply: &Reply) -> Result<(), AllocError>
 
 // Appends the line of a value to the text.
 fn put_value(out: &mut Vec<u8>, value: &[u8]) -> Result<(), AllocError>
-    ensures { Appends out.old.items out.new.items result
+    ensures { OutputGrows out.old.items out.new.items result
         (codes "value " ++ hex_word value.now ++ codes "\n") }
 {
     out.extend_from_slice(b"value ")?;
@@ -58,7 +58,7 @@ fn put_value(out: &mut Vec<u8>, value: &[u8]) -> Result<(), AllocError>
 
 // Appends the line of a snapshot's number to the text.
 fn put_snapshot(out: &mut Vec<u8>, number: usize) -> Result<(), AllocError>
-    ensures { Appends out.old.items out.new.items result
+    ensures { OutputGrows out.old.items out.new.items result
         (codes "snapshot " ++ decimal number ++ codes "\n") }
 {
     let line = format!(in *out.allocator(); "snapshot {number}\n")?;
@@ -67,7 +67,7 @@ fn put_snapshot(out: &mut Vec<u8>, number: usize) -> Result<(), AllocError>
 
 // Appends the lines that say where moves led to the text.
 fn put_steps(out: &mut Vec<u8>, steps: &[Step]) -> Result<(), AllocError>
-    ensures { Appends out.old.items out.new.items result (flat_map step_line steps.now) }
+    ensures { OutputGrows out.old.items out.new.items result (flat_map step_line steps.now) }
 {
     for step in steps {
         put_step(out, step)?;
@@ -77,7 +77,7 @@ fn put_steps(out: &mut Vec<u8>, steps: &[Step]) -> Result<(), AllocError>
 
 // Appends the line that says where a move led to the text.
 fn put_step(out: &mut Vec<u8>, step: &Step) -> Result<(), AllocError>
-    ensures { Appends out.old.items out.new.items result (step_line step.now) }
+    ensures { OutputGrows out.old.items out.new.items result (step_line step.now) }
 {
     match step {
         Step::At(key, value) => put_pair(out, key, value),
@@ -88,7 +88,7 @@ fn put_step(out: &mut Vec<u8>, step: &Step) -> Result<(), AllocError>
 
 // Appends the line of a pair to the text.
 fn put_pair(out: &mut Vec<u8>, key: &[u8], value: &[u8]) -> Result<(), AllocError>
-    ensures { Appends out.old.items out.new.items result
+    ensures { OutputGrows out.old.items out.new.items result
         (codes "at " ++ hex_word key.now ++ codes " " ++ hex_word value.now ++ codes "\n") }
 {
     out.extend_from_slice(b"at ")?;
@@ -100,7 +100,7 @@ fn put_pair(out: &mut Vec<u8>, key: &[u8], value: &[u8]) -> Result<(), AllocErro
 
 // Appends the line of a refusal to the text.
 fn put_refusal(out: &mut Vec<u8>, code: StatusCode) -> Result<(), AllocError>
-    ensures { Appends out.old.items out.new.items result (refusal_line code) }
+    ensures { OutputGrows out.old.items out.new.items result (refusal_line code) }
 {
     let line = format!(in *out.allocator(); "refused {code}\n")?;
     out.extend_from_slice(line.as_bytes())

@@ -1,6 +1,6 @@
 //! The lines of walks: a view, and moves over it.
 ghost use Rattle.std.specs.Prelude.{◌≡◌, ◌++◌, IfOk, codes};
-ghost use Rattle.rusty_leveldb.specs.Programs.Spelling.{rest_text, IsViewReading, IsMoveReading, IsMovesReading, IsLineReading};
+ghost use Rattle.rusty_leveldb.specs.Programs.Readings.{rest_text, IsViewReading, IsMoveReading, IsMovesReading, IsLineReading};
 
 use super::commands::{Command, Move};
 use super::words::{after, read_number, read_word, split_once};

@@ -2,8 +2,8 @@
 //! none; and numbers.
 ghost use Rattle.std.specs.Prelude.{◌≡◌, ◌≢◌, ◌∷◌, ◌++◌, [], List, ℕ, IfOk, OnOk, MatchOption, Contains};
 ghost use Rattle.hex.specs.Hex.{encode_lower, IsBytes};
-ghost use Rattle.rusty_leveldb.specs.Programs.Language.{hex_word, Appends};
-ghost use Rattle.rusty_leveldb.specs.Programs.Spelling.{IsWord, IsWordReading, IsNumberReading};
+ghost use Rattle.rusty_leveldb.specs.Programs.Language.{hex_word, OutputGrows};
+ghost use Rattle.rusty_leveldb.specs.Programs.Readings.{IsHexWord, IsWordReading, IsNumberReading};
 
 use hex::FromHexError;
 use std::alloc::{AllocError, Global};
@@ -14,7 +14,7 @@ const DIGITS: &[u8; 16] = b"0123456789abcdef";
 /// Appends bytes as a word to the text. Where it fails, out of memory, part of the word may be
 /// there.
 pub(super) fn put_word(out: &mut Vec<u8>, bytes: &[u8]) -> Result<(), AllocError>
-    ensures { Appends out.old.items out.new.items result (hex_word bytes.now) }
+    ensures { OutputGrows out.old.items out.new.items result (hex_word bytes.now) }
 {
     if bytes.is_empty() {
         return out.extend_from_slice(b".");
@@ -51,9 +51,9 @@ pub(super) fn read_word(alloc: Global, word: &[u8]) -> Result<Option<Vec<u8>>, A
 // The bytes of a word, whichever the case of its digits; where it is one, those that it encodes.
 fn read_digits(alloc: Global, word: &[u8]) -> Result<Option<Vec<u8>>, AllocError>
     ensures { IfOk result (λ found. MatchOption found
-        ((bytes : List ℕ) → IsWord word.now bytes → ⊥)
+        ((bytes : List ℕ) → IsHexWord word.now bytes → ⊥)
         (λ read. IsBytes read.items
-        × ((bytes : List ℕ) → IsWord word.now bytes → read.items ≡ bytes))) }
+        × ((bytes : List ℕ) → IsHexWord word.now bytes → read.items ≡ bytes))) }
 {
     if word == b".".as_slice() {
         return Ok(Some(Vec::new(alloc)));

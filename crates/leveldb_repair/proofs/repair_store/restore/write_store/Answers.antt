@@ -21,6 +21,7 @@ returns-then-next g c = λ from leaves over.
     rw failed.1 (used_up _ g.E.Env c.args.plan.now.store.now c.args.plan.now.greatest g.W.Walk _ _ from c.args.found leaves over (omega (arith, rises, next))
     (sym c.next_file_num-next.ensures ∙ c.if-next.true)
     (rw next at c.in_ok-made.ensures.writes over.moves).changes
+    (rw next at c.in_ok-made.ensures.writes over.moves).parts
     (rw next at c.in_ok-made.ensures.writes over.moves).few failed.2)
 
 pub returns-in_err-edit : goal.returns-in_err-edit
@@ -29,7 +30,8 @@ returns-in_err-edit g c = λ from leaves over.
     let rises = c.write_found.ensures.numbers.rises in
     let next = c.requires in
     rw (failed.1, failed.2) (no_memory _ g.E.Env c.args.plan.now.store.now c.args.plan.now.greatest g.W.Walk _ _ from c.args.found leaves over (omega (arith, rises, next)) c.write_found.ensures.fits
-    (rw next at c.in_ok-made.ensures.writes over.moves).changes c.in_err-edit.ensures.memory)
+    (rw next at c.in_ok-made.ensures.writes over.moves).changes
+    (rw next at c.in_ok-made.ensures.writes over.moves).parts c.in_err-edit.ensures.memory)
 
 pub returns : goal.returns
 returns g c = λ from leaves over.
@@ -39,5 +41,5 @@ returns g c = λ from leaves over.
     let ok = writes.ok in
     let edit_is = c.in_ok-edit.ensures.ok ∙ (λ i. repaired_edit (c.id.ensures i) (c.next_file_num-next.ensures i) c.args.found.last (files_of_level_one c.in_ok-made.made.items)) in
     ended _ g.E.Env c.args.plan.now.store.now c.args.plan.now.greatest g.W.Walk _ _ from c.args.found leaves over (rw next at rises)
-    (next_has_one c.next_file_num-next.ensures c.write_found.ensures.fits c.if-next.false) writes.changes ok.1 ok.2 (rw c.id.ensures at c.id.utf8) c.make_manifest_of.result
+    (next_has_one c.next_file_num-next.ensures c.write_found.ensures.fits c.if-next.false) writes.changes writes.parts ok.1 ok.2 (rw c.id.ensures at c.id.utf8) c.make_manifest_of.result
     (rw edit_is at c.make_manifest_of.ensures)

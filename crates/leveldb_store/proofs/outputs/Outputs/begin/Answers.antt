@@ -1,11 +1,13 @@
-use Rattle.std.proofs.Common.{◌∙◌, ◌<◌, ◌^◌, inl, ap, arith, refl, subst}
+use Rattle.std.proofs.Common.{◌∙◌, ◌<◌, ◌^◌, ◌∷◌, [], inl, ap, arith, refl, subst}
 use Rattle.std.proofs.lemmas.Result.{err_from_is_err_and}
 use Rattle.leveldb_base.specs.contracts.cmp.internal.InternalKeyCmpCmp.TheImpl.{ghosts as key_cmp}
 use Rattle.leveldb_env.specs.contracts.compressor.CompressorListCompressors.TheImpl.{ghosts as compressors}
 use Rattle.leveldb_env.specs.contracts.filter.internal.InternalFilterPolicyFilterPolicy.TheImpl.{ghosts as key_policy}
 use Rattle.leveldb_store.specs.Tables.BuildTable.{choices_of}
 use Rattle.leveldb_store.specs.Tables.TableFile.{ChangesOneFile}
-use Rattle.leveldb_store.proofs.Tables.OutputsLemmas.{first_added, first_changes, key_accepted, none_cause, none_changes, not_begun, outputs_begun, table_begun}
+use Rattle.leveldb_store.proofs.Tables.CreatedLemmas.{first_added, first_changes, key_accepted, none_cause, none_changes}
+use Rattle.leveldb_store.proofs.Tables.OutputsLemmas.{not_begun, outputs_begun, table_begun}
+use Rattle.leveldb_store.proofs.Tables.PartsLemmas.{begun_added, begun_left, created_parts, created_stops}
 use Rattle.leveldb_store.proofs.Tables.TableFileLemmas.{opened_is}
 use Rattle.leveldb_store.proofs.outputs.Outputs.begin.Goals as goal
 
@@ -50,3 +52,21 @@ returns-clause-changes g c =
     let o = c.in_ok-table.ensures in
     let number_is = c.in_ok-number.ensures.number in
     first_changes g.E.Env c.args.store.now o.does o.locks o.cause o.file (c.deref.ensures ∙ c.in_ok-path.ensures.ok) number_is (omega (arith, number_is, c.in_ok-number.ensures.fits)) (ap (λ v. v.set.next_file) c.in_ok-number.ensures.ok) c.in_ok-add.ensures.ok.longer
+
+-- what there is of the table meanwhile
+pub returns-in_err-table-clause-parts : goal.returns-in_err-table-clause-parts
+returns-in_err-table-clause-parts g c =
+    let choices = choices_of g.C.Cmp g.FP.FilterPolicy (key_cmp g.row.C g.C.UserCmp g.C.UserCmp-dict g.C.Cmp g.C.Cmp-dict) (key_policy g.row.FP g.FP.FilterPolicy g.FP.FilterPolicy-dict) (compressors g.dyn-2).codings c.args.options.now in
+    created_parts choices g.E.Env ((c.args.key.now, c.args.value.now) ∷ []) _ c.new_builder-core.ensures c.create.ensures.does
+
+pub returns-in_err-add-clause-parts : goal.returns-in_err-add-clause-parts
+returns-in_err-add-clause-parts g c =
+    let o = c.in_ok-table.ensures in
+    let choices = choices_of g.C.Cmp g.FP.FilterPolicy (key_cmp g.row.C g.C.UserCmp g.C.UserCmp-dict g.C.Cmp g.C.Cmp-dict) (key_policy g.row.FP g.FP.FilterPolicy g.FP.FilterPolicy-dict) (compressors g.dyn-2).codings c.args.options.now in
+    begun_left choices g.E.Env (c.args.key.now, c.args.value.now) c.new_builder-core.ensures o.is.1 o.does o.file c.in_err-add.ensures.left (created_stops g.E.Env o.does o.file c.in_err-add.ensures.err).changes
+
+pub returns-clause-parts : goal.returns-clause-parts
+returns-clause-parts g c =
+    let o = c.in_ok-table.ensures in
+    let choices = choices_of g.C.Cmp g.FP.FilterPolicy (key_cmp g.row.C g.C.UserCmp g.C.UserCmp-dict g.C.Cmp g.C.Cmp-dict) (key_policy g.row.FP g.FP.FilterPolicy g.FP.FilterPolicy-dict) (compressors g.dyn-2).codings c.args.options.now in
+    begun_added choices g.E.Env (c.args.key.now, c.args.value.now) c.new_builder-core.ensures o.is.1 o.does o.file c.in_ok-add.ensures.ok c.add.ensures.choices

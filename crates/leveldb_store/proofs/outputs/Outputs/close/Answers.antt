@@ -8,7 +8,7 @@ pub returns-in_err-made-clause-finishes : goal.returns-in_err-made-clause-finish
 returns-in_err-made-clause-finishes g c = λ store first next tables pairs have.
     let is = sym (ap (λ v. v.unfinished) c.self.view_is) ∙ sym c.in-Some.ensures.value in
     let failed = err_from_is_err_and c.from_residual.result c.from_residual.ensures.1 in
-    rw failed.1 (rw failed.2 (open_unfinished _ g.E.Env store have is _ _ c.in_err-made.ensures.err))
+    rw failed.1 (rw failed.2 (open_unfinished _ g.E.Env store have is _ _ c.in_err-made.ensures.err c.in_err-made.ensures.left))
 
 pub returns-clause-finishes : goal.returns-clause-finishes
 returns-clause-finishes g c = λ store first next tables pairs have.

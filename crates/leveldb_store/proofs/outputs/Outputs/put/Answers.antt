@@ -26,4 +26,4 @@ returns-clause-puts g c = λ first tables pairs have.
       | else-not-due-via-else-not-due w ↦ inl (sym w.if-not-due.ensures)
     ])
     (c.in_ok-close.ensures.finishes c.args.store.now first c.args.versions.now.set.next_file tables pairs have)
-    (λ ready are cut. c.begin.ensures.begins first ready are cut) (may_rise c.begin.ensures.numbers) c.begin.ensures.changes c.begin.ensures.cause
+    (λ ready are cut. c.begin.ensures.begins first ready are cut) (may_rise c.begin.ensures.numbers) c.begin.ensures.changes c.begin.ensures.parts c.begin.ensures.cause

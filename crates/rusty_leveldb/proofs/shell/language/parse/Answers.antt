@@ -3,7 +3,7 @@ use Rattle.std.specs.Prelude.{All}
 use Rattle.std.proofs.lemmas.List.Elements.{All-nil, All-cons, All-append}
 use Rattle.rusty_leveldb.specs.declared.shell.commands.Command.{Command}
 use Rattle.rusty_leveldb.specs.Programs.Language.{HasBytes}
-use Rattle.rusty_leveldb.specs.Programs.Spelling.{IsLineReading}
+use Rattle.rusty_leveldb.specs.Programs.Readings.{IsLineReading}
 use Rattle.rusty_leveldb.proofs.Programs.Lines.{IsRead, read_more, bad_line}
 use Rattle.rusty_leveldb.proofs.shell.language.parse.Goals as goal
 

@@ -1,7 +1,7 @@
 use Rattle.std.proofs.Common.{ℕ, Option, subst}
 use Rattle.std.specs.Prelude.{Vec}
 use Rattle.std.specs.declared.alloc.Global.{Global}
-use Rattle.rusty_leveldb.specs.Programs.Spelling.{IsWordReading}
+use Rattle.rusty_leveldb.specs.Programs.Readings.{IsWordReading}
 use Rattle.rusty_leveldb.proofs.Programs.Lines.{no_delete_item}
 use Rattle.rusty_leveldb.proofs.shell.lines.read_delete_item.Goals as goal
 

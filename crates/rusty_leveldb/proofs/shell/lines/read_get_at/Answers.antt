@@ -1,7 +1,7 @@
 use Rattle.std.proofs.Common.{ℕ, List, Option, subst}
 use Rattle.std.specs.Prelude.{Contains, Vec}
 use Rattle.std.specs.declared.alloc.Global.{Global}
-use Rattle.rusty_leveldb.specs.Programs.Spelling.{IsNumberReading, IsWordReading}
+use Rattle.rusty_leveldb.specs.Programs.Readings.{IsNumberReading, IsWordReading}
 use Rattle.rusty_leveldb.proofs.Programs.Lines.{no_get_at_parts, no_get_at_number, no_get_at_key, get_at_text}
 use Rattle.rusty_leveldb.proofs.shell.lines.read_get_at.Goals as goal
 

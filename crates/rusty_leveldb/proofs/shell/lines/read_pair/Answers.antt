@@ -1,7 +1,7 @@
 use Rattle.std.proofs.Common.{ℕ, List, Option, subst}
 use Rattle.std.specs.Prelude.{Contains, Vec}
 use Rattle.std.specs.declared.alloc.Global.{Global}
-use Rattle.rusty_leveldb.specs.Programs.Spelling.{IsWordReading}
+use Rattle.rusty_leveldb.specs.Programs.Readings.{IsWordReading}
 use Rattle.rusty_leveldb.proofs.Programs.Lines.{not_parted, pair_parts}
 use Rattle.rusty_leveldb.proofs.shell.lines.read_pair.Goals as goal
 

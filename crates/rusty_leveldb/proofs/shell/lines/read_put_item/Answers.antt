@@ -1,7 +1,7 @@
 use Rattle.std.proofs.Common.{ℕ, Option, subst, codes}
 use Rattle.std.specs.Prelude.{Vec}
 use Rattle.std.specs.declared.alloc.Global.{Global}
-use Rattle.rusty_leveldb.specs.Programs.Spelling.{IsPairReading}
+use Rattle.rusty_leveldb.specs.Programs.Readings.{IsPairReading}
 use Rattle.rusty_leveldb.proofs.Programs.Lines.{no_put_item, pair_text}
 use Rattle.rusty_leveldb.proofs.shell.lines.read_put_item.Goals as goal
 

@@ -3,7 +3,7 @@ use Rattle.std.specs.Prelude.{All}
 use Rattle.std.proofs.lemmas.List.Elements.{All-nil, All-cons, All-append}
 use Rattle.rusty_leveldb.specs.declared.shell.commands.Item.{Item}
 use Rattle.rusty_leveldb.specs.Programs.Language.{item_word, words_text, ItemHasBytes}
-use Rattle.rusty_leveldb.specs.Programs.Spelling.{IsItems, IsItemReading, rest_text}
+use Rattle.rusty_leveldb.specs.Programs.Readings.{IsItems, IsItemReading, rest_text}
 use Rattle.rusty_leveldb.proofs.Programs.Lines.{words_more, first_item}
 use Rattle.rusty_leveldb.proofs.shell.lines.read_words.Goals as goal
 

@@ -2,7 +2,7 @@ use Rattle.std.proofs.Common.{◌≡◌, ◌∷◌, ◌++◌, List, length}
 use Rattle.std.specs.Prelude.{All}
 use Rattle.rusty_leveldb.specs.declared.shell.commands.Item.{Item}
 use Rattle.rusty_leveldb.specs.Programs.Language.{item_word, words_text, ItemHasBytes}
-use Rattle.rusty_leveldb.specs.Programs.Spelling.{IsItems, rest_text}
+use Rattle.rusty_leveldb.specs.Programs.Readings.{IsItems, rest_text}
 use Rattle.rusty_leveldb.proofs.shell.lines.read_words.Given as goal
 
 abbrev pub invariant-loop-rest : goal.invariant-loop-rest

@@ -3,7 +3,7 @@ use Rattle.std.specs.Prelude.{Vec}
 use Rattle.std.specs.declared.alloc.Global.{Global}
 use Rattle.rusty_leveldb.specs.declared.shell.commands.Item.{Item}
 use Rattle.rusty_leveldb.specs.Programs.Language.{sync_word}
-use Rattle.rusty_leveldb.specs.Programs.Spelling.{IsItemsReading}
+use Rattle.rusty_leveldb.specs.Programs.Readings.{IsItemsReading}
 use Rattle.rusty_leveldb.proofs.Programs.Lines.{no_sync, no_items}
 use Rattle.rusty_leveldb.proofs.shell.lines.read_write.Goals as goal
 

@@ -1,6 +1,6 @@
 use Rattle.std.proofs.Common.{rules, inl, inr}
 use Rattle.rusty_leveldb.proofs.Programs.Playing.{OnErr-always}
-use Rattle.rusty_leveldb.specs.Programs.Program.{NamesNone}
+use Rattle.rusty_leveldb.specs.Programs.Program.{NamesNoFolder}
 use Rattle.rusty_leveldb.specs.declared.shell.program.Task.TheVariants as task
 use Rattle.rusty_leveldb.proofs.shell.program.serve.Goals as goal
 
@@ -18,7 +18,7 @@ returns-in_err-play-in-Run-clause-stopped g c =
 
 pub returns-in_default-clause-bad : goal.returns-in_default-clause-bad
 returns-in_default-clause-bad g c = λ asked bad.
-    let none : NamesNone c.args.args.now = search rules in
+    let none : NamesNoFolder c.args.args.now = search rules in
     absurd (none (task.Run asked.0) asked.1 asked.2)
 
 pub returns-in_err-play-in-Run-clause-bad : goal.returns-in_err-play-in-Run-clause-bad

@@ -8,14 +8,14 @@ use Rattle.leveldb_env.specs.contracts.filter.internal.InternalFilterPolicyFilte
 use Rattle.leveldb_store.specs.Tables.BuildTable.{choices_of}
 use Rattle.rusty_leveldb.specs.Engines.Calls.{EngineWrites}
 use Rattle.rusty_leveldb.specs.Programs.Shell.{change_of}
-use Rattle.rusty_leveldb.proofs.Engines.CallsLemmas.{halted_writes}
+use Rattle.rusty_leveldb.proofs.Engines.CallsLemmas.{refused_writes}
 use Rattle.rusty_leveldb.proofs.Engines.WriteCallLemmas.{unmade_serves}
 use Rattle.rusty_leveldb.proofs.shell.runs.write.Goals as goal
 
 pub returns-in_err-check_writable : goal.returns-in_err-check_writable
 returns-in_err-check_writable g c =
     let p = err_from_is_err_and c.from_residual.result c.from_residual.ensures.1 in
-    rw (p.1, p.2) (halted_writes g.E.Env _ c.args.engine.now c.in_err-check_writable.field-0.0
+    rw (p.1, p.2) (refused_writes g.E.Env _ c.args.engine.now c.in_err-check_writable.field-0.0
     c.args.env.now c.in_err-check_writable.ensures.cause (map change_of c.args.items.now) c.args.sync)
 
 pub returns-in_err-batch : goal.returns-in_err-batch

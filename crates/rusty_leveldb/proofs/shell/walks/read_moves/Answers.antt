@@ -3,7 +3,7 @@ use Rattle.std.specs.Prelude.{All}
 use Rattle.std.proofs.lemmas.List.Elements.{All-nil, All-cons, All-append}
 use Rattle.leveldb_iter.specs.declared.moves.Move.{Move}
 use Rattle.rusty_leveldb.specs.Programs.Language.{move_word, words_text, MoveHasBytes}
-use Rattle.rusty_leveldb.specs.Programs.Spelling.{IsMoves, IsMoveReading, rest_text}
+use Rattle.rusty_leveldb.specs.Programs.Readings.{IsMoves, IsMoveReading, rest_text}
 use Rattle.rusty_leveldb.proofs.Programs.Lines.{words_more, first_move}
 use Rattle.rusty_leveldb.proofs.shell.walks.read_moves.Goals as goal
 

@@ -2,7 +2,7 @@ use Rattle.std.proofs.Common.{◌≡◌, ◌++◌, List, length}
 use Rattle.std.specs.Prelude.{All}
 use Rattle.leveldb_iter.specs.declared.moves.Move.{Move}
 use Rattle.rusty_leveldb.specs.Programs.Language.{move_word, words_text, MoveHasBytes}
-use Rattle.rusty_leveldb.specs.Programs.Spelling.{IsMoves, rest_text}
+use Rattle.rusty_leveldb.specs.Programs.Readings.{IsMoves, rest_text}
 use Rattle.rusty_leveldb.proofs.shell.walks.read_moves.Given as goal
 
 abbrev pub invariant-loop-rest : goal.invariant-loop-rest

@@ -2,7 +2,7 @@ use Rattle.std.proofs.Common.{ℕ, Option, subst}
 use Rattle.std.specs.Prelude.{Vec}
 use Rattle.std.specs.declared.alloc.Global.{Global}
 use Rattle.leveldb_iter.specs.declared.moves.Move.{Move}
-use Rattle.rusty_leveldb.specs.Programs.Spelling.{IsViewReading, IsMovesReading, rest_text}
+use Rattle.rusty_leveldb.specs.Programs.Readings.{IsViewReading, IsMovesReading, rest_text}
 use Rattle.rusty_leveldb.proofs.Programs.Lines.{no_walk_view, no_walk_moves, walk_text}
 use Rattle.rusty_leveldb.proofs.shell.walks.read_walk.Goals as goal
 

@@ -1,12 +1,12 @@
 use Rattle.std.proofs.Common.{rules, arith, ◌≡◌, ◌≢◌, inl, inr, codes}
 use Rattle.hex.proofs.HexLemmas.{decode_of-ok}
-use Rattle.rusty_leveldb.proofs.Programs.Words.{decoded_is, not_decoded, dot_spells}
+use Rattle.rusty_leveldb.proofs.Programs.Words.{decoded_is, not_decoded, dot_encodes}
 use Rattle.rusty_leveldb.proofs.shell.words.read_digits.Goals as goal
 
 pub returns-then-eq : goal.returns-then-eq
 returns-then-eq c =
     let dot : c.args.word.now ≡ codes "." = search rules in
-    rw c.new.ensures.items (λ i. omega arith, λ bytes is. dot_spells c.args.word.now bytes dot is)
+    rw c.new.ensures.items (λ i. omega arith, λ bytes is. dot_encodes c.args.word.now bytes dot is)
 
 pub returns-in-Ok : goal.returns-in-Ok
 returns-in-Ok c =

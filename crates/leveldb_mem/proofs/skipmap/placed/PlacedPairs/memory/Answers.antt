@@ -1,5 +1,5 @@
 use Rattle.std.proofs.Common.{ap, arith, length}
-use Rattle.leveldb_mem.specs.Placed.{Placed, head, nodes_after, bytes_of}
+use Rattle.leveldb_mem.specs.Placed.{Placed, head, nodes_after, pairs_length}
 use Rattle.leveldb_mem.proofs.PlacedLemmas.{length-pairs_of_nodes, length-nodes_after}
 use Rattle.leveldb_mem.proofs.skipmap.placed.PlacedPairs.memory.Goals as goal
 
@@ -10,7 +10,7 @@ returns-clause-value c =
     omega (
       arith,
       ap (λ (z : Placed). length z.pairs) c.self.view_is,
-      ap (λ (z : Placed). bytes_of z.pairs) c.self.view_is,
+      ap (λ (z : Placed). pairs_length z.pairs) c.self.view_is,
       length-pairs_of_nodes it.text.items it.words.items nodes,
       length-nodes_after it.words.items head it.count,
       c.self.invariant.0.filled,

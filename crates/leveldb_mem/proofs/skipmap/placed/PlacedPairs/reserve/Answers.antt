@@ -1,6 +1,6 @@
 use Rattle.std.proofs.Common.{◌≡◌, ◌≤◌, ◌+◌, ◌*◌, ◌^◌, ◌∙◌, inl, refl, ap, length, drop, arith, length-drop}
 use Rattle.std.proofs.lemmas.Result.{err_from_is_err_and}
-use Rattle.leveldb_mem.specs.Placed.{head, nodes_after, pairs_of_nodes, bytes_of, memory_of}
+use Rattle.leveldb_mem.specs.Placed.{head, nodes_after, pairs_of_nodes, pairs_length, map_memory}
 use Rattle.leveldb_mem.proofs.PlacedLemmas.{length-pairs_of_nodes, length-nodes_after}
 use Rattle.leveldb_mem.proofs.LaidLemmas.{opens}
 use Rattle.leveldb_mem.proofs.skipmap.placed.PlacedPairs.reserve.Goals as goal
@@ -31,8 +31,8 @@ returns-then-places-len c =
     let pairs = pairs_of_nodes text words nodes in
     let more = length (drop it.end text) + c.args.bytes in
     let size : length pairs ≡ it.count = length-pairs_of_nodes text words nodes ∙ length-nodes_after words head it.count in
-    let bytes : bytes_of pairs ≡ it.end = c.self.invariant.0.filled in
-    let past : 2 ^ 32 ≤ memory_of pairs + (64 * c.args.places + more) =
+    let bytes : pairs_length pairs ≡ it.end = c.self.invariant.0.filled in
+    let past : 2 ^ 32 ≤ map_memory pairs + (64 * c.args.places + more) =
     elim c.then-places-len.branch [
       | then-places-len-via-then-places-len w ↦ omega (arith, size, w.if-places-len.true, c.len.ensures, c.self.invariant.6)
       | then-places-len-via-else-places-len+then-bytes-len w ↦ omega (

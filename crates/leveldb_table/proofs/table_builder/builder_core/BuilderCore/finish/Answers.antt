@@ -6,7 +6,7 @@ use Rattle.leveldb_env.specs.contracts.compressor.CompressorListCompressors.TheI
 use Rattle.leveldb_env.proofs.FilterBlockLemmas.{keeps_keys}
 use Rattle.leveldb_table.specs.TableBuilder.{TableBuilt, stage}
 use Rattle.leveldb_table.proofs.TableLemmas.{IfErr-with}
-use Rattle.leveldb_table.proofs.TableBuilderFinishLemmas.{refused_with, stops_unset_at, table_made, PutsEnd-all, PutsEnd-same}
+use Rattle.leveldb_table.proofs.TableBuilderFinishLemmas.{rest_makes, sound_unlined, refused_with, stops_unset_at, table_made, PutsEnd-all, PutsEnd-same}
 use Rattle.leveldb_table.proofs.table_builder.builder_core.BuilderCore.finish.Goals as goal
 
 pub returns-in_err-check_unbroken-clause-cause : goal.returns-in_err-check_unbroken-clause-cause
@@ -93,3 +93,22 @@ returns-clause-ok g c =
       };
       unbroken = unbroken;
     }) c.put_end.ensures.ok)
+
+pub returns-in_err-check_unbroken-clause-rest : goal.returns-in_err-check_unbroken-clause-rest
+returns-in_err-check_unbroken-clause-rest g c =
+    let failed = c.in_err-check_unbroken.ensures.err in
+    λ unbroken. absurd (true≢false (sym failed.0 ∙ unbroken))
+
+pub returns-in_err-close_last-clause-rest : goal.returns-in_err-close_last-clause-rest
+returns-in_err-close_last-clause-rest g c =
+    let self = c.self.inside in
+    let cmp = self.block.cmp in
+    let keeps = keeps_keys g.FP.FilterPolicy.filter_for g.FP.FilterPolicy.matches g.met.FP.FilterPolicy.finds in
+    rw (← c.self.view_is) (λ unbroken. rest_makes g.C.Cmp g.FP.FilterPolicy _ _ (g.met.C.Cmp.preorder cmp) (g.met.C.Cmp.separates cmp) (g.met.C.Cmp.succeeds cmp) keeps (sound_unlined _ (self.sound unbroken)))
+
+pub returns-clause-rest : goal.returns-clause-rest
+returns-clause-rest g c =
+    let self = c.self.inside in
+    let cmp = self.block.cmp in
+    let keeps = keeps_keys g.FP.FilterPolicy.filter_for g.FP.FilterPolicy.matches g.met.FP.FilterPolicy.finds in
+    rw (← c.self.view_is) (λ unbroken. rest_makes g.C.Cmp g.FP.FilterPolicy _ _ (g.met.C.Cmp.preorder cmp) (g.met.C.Cmp.separates cmp) (g.met.C.Cmp.succeeds cmp) keeps (sound_unlined _ (self.sound unbroken)))

@@ -3,13 +3,13 @@ use Rattle.std.proofs.Common.{ap, inl, inr}
 use Rattle.std.proofs.lemmas.Result.{err_from_is_err_and}
 use Rattle.leveldb_env.specs.contracts.compressor.CompressorListCompressors.TheImpl.{ghosts as compressors}
 use Rattle.leveldb_files.specs.Stores.Format.{format_of}
-use Rattle.rusty_leveldb.proofs.Compactions.CompactCallLemmas.{compact_serves, halted_compacts, long_compacts}
+use Rattle.rusty_leveldb.proofs.Compactions.CompactCallLemmas.{compact_serves, refused_compacts, long_compacts}
 use Rattle.rusty_leveldb.proofs.db_impl.compact.Engine+E+C+FP.compact_range.Goals as goal
 
 pub returns-in_err-check_open : goal.returns-in_err-check_open
 returns-in_err-check_open g c =
     let p = err_from_is_err_and c.from_residual.result c.from_residual.ensures.1 in
-    rw (p.1, p.2) (halted_compacts g.E.Env _ c.args.self.now c.args.env.now c.args.from.now
+    rw (p.1, p.2) (refused_compacts g.E.Env _ c.args.self.now c.args.env.now c.args.from.now
     c.args.to.now c.in_err-check_open.field-0.0 c.in_err-check_open.ensures.cause)
 
 pub returns-in_err-check_key_size : goal.returns-in_err-check_key_size

@@ -2,7 +2,7 @@
 use Rattle.std.proofs.Common.{[], sym, ◌∙◌, ap, append-nil, subst, ◌++◌}
 use Rattle.std.specs.Option.{option_map}
 use Rattle.std.proofs.lemmas.Result.{err_from_is_err_and}
-use Rattle.rusty_leveldb.specs.Engines.Engine.{ReadsAt}
+use Rattle.rusty_leveldb.specs.Engines.Engine.{IsEngineSequence}
 use Rattle.rusty_leveldb.specs.Engines.Serves.{snapshot_of}
 use Rattle.rusty_leveldb.proofs.Walks.WalkCallLemmas.{walk_closed_serves, walk_serves_in, walk_starved_serves, walk_unheld_serves}
 use Rattle.rusty_leveldb.proofs.db_impl.walk.Engine+E+C+FP.walk.Goals as goal
@@ -47,6 +47,6 @@ returns g c =
           (walk_serves_in g.E.Env _ _ (option_map snapshot_of c.args.at) c.args.moves.now c.args.env.now
           (λ closed. c.in_ok-check_not_closed.ensures.ok (sym (ap (λ v. v.mode) c.self.view_is) ∙ closed))
           c.cmp-self-inside.result c.cmp-self-inside.ensures c.in_ok-sequence.sequence
-          (subst (λ e. ReadsAt e (option_map snapshot_of c.args.at) c.in_ok-sequence.sequence) (sym c.self.view_is)
+          (subst (λ e. IsEngineSequence e (option_map snapshot_of c.args.at) c.in_ok-sequence.sequence) (sym c.self.view_is)
           c.in_ok-sequence.ensures.ok) c.walk.new.env c.walk.new.tables walks.0 c.walk.result walks.2),
     )

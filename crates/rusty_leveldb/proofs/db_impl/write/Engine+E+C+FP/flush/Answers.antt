@@ -3,14 +3,14 @@ use Rattle.std.proofs.Common.{◌≡◌, ◌∙◌, ap}
 use Rattle.std.proofs.lemmas.Result.{err_from_is_err_and}
 use Rattle.rusty_leveldb.specs.Engines.EngineValue.{mode_of}
 use Rattle.rusty_leveldb.specs.Machines.State.{open_mode}
-use Rattle.rusty_leveldb.proofs.Engines.CallsLemmas.{flush_serves, halted_flushes}
+use Rattle.rusty_leveldb.proofs.Engines.CallsLemmas.{flush_serves, refused_flushes}
 use Rattle.rusty_leveldb.proofs.Engines.EngineLemmas.{follows_unbroken}
 use Rattle.rusty_leveldb.proofs.db_impl.write.Engine+E+C+FP.flush.Goals as goal
 
 pub returns-in_err-check_open : goal.returns-in_err-check_open
 returns-in_err-check_open g c =
     let p = err_from_is_err_and c.from_residual.result c.from_residual.ensures.1 in
-    rw (p.1, p.2) (halted_flushes g.E.Env _ c.args.self.now c.in_err-check_open.field-0.0
+    rw (p.1, p.2) (refused_flushes g.E.Env _ c.args.self.now c.in_err-check_open.field-0.0
     c.args.env.now c.in_err-check_open.ensures.cause)
 
 pub returns : goal.returns

@@ -8,13 +8,13 @@ use Rattle.leveldb_env.specs.contracts.filter.internal.InternalFilterPolicyFilte
 use Rattle.leveldb_store.specs.Tables.BuildTable.{choices_of}
 use Rattle.rusty_leveldb.specs.Engines.Calls.{EngineWrites}
 use Rattle.rusty_leveldb.proofs.Engines.WriteCallLemmas.{one_change, unmade, unmade_serves}
-use Rattle.rusty_leveldb.proofs.Engines.CallsLemmas.{halted_writes}
+use Rattle.rusty_leveldb.proofs.Engines.CallsLemmas.{refused_writes}
 use Rattle.rusty_leveldb.proofs.db_impl.write.Engine+E+C+FP.put.Goals as goal
 
 pub returns-in_err-check_open : goal.returns-in_err-check_open
 returns-in_err-check_open g c =
     let p = err_from_is_err_and c.from_residual.result c.from_residual.ensures.1 in
-    rw (p.1, p.2) (halted_writes g.E.Env _ c.args.self.now c.in_err-check_open.field-0.0
+    rw (p.1, p.2) (refused_writes g.E.Env _ c.args.self.now c.in_err-check_open.field-0.0
     c.args.env.now c.in_err-check_open.ensures.cause (item_of c.args.key.now (Some c.args.value.now) ∷ []) false)
 
 pub returns-in_err-batch : goal.returns-in_err-batch

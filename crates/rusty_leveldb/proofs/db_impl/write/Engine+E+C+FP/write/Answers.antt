@@ -10,13 +10,13 @@ use Rattle.rusty_leveldb.proofs.Engines.Batching.{not_too_long}
 use Rattle.rusty_leveldb.proofs.Engines.WriteCallLemmas.{batch_serves, room_fails_serves}
 use Rattle.rusty_leveldb.proofs.Engines.EngineLemmas.{follows_unbroken}
 use Rattle.rusty_leveldb.specs.Engines.Room.{EngineMakesRoom}
-use Rattle.rusty_leveldb.proofs.Engines.CallsLemmas.{halted_writes}
+use Rattle.rusty_leveldb.proofs.Engines.CallsLemmas.{refused_writes}
 use Rattle.rusty_leveldb.proofs.db_impl.write.Engine+E+C+FP.write.Goals as goal
 
 pub returns-in_err-check_open : goal.returns-in_err-check_open
 returns-in_err-check_open g c =
     let p = err_from_is_err_and c.from_residual.result c.from_residual.ensures.1 in
-    rw (p.1, p.2) (halted_writes g.E.Env _ c.args.self.now c.in_err-check_open.field-0.0
+    rw (p.1, p.2) (refused_writes g.E.Env _ c.args.self.now c.in_err-check_open.field-0.0
     c.args.env.now c.in_err-check_open.ensures.cause c.args.batch.items c.args.sync)
 
 pub returns-in_err-make_room : goal.returns-in_err-make_room

@@ -1,6 +1,6 @@
 use Rattle.leveldb_iter.specs.declared.moves.Move.TheVariants.{First, Seek}
 use Rattle.leveldb_iter.proofs.MovesLemmas.{led_from, over_of}
-use Rattle.leveldb_iter.proofs.moves.make_one.Goals as goal
+use Rattle.leveldb_iter.proofs.moves.Move.apply.Goals as goal
 
 pub returns-in-First : goal.returns-in-First
 returns-in-First g c = rw c.in-First.is (led_from g.W.Walk g.met.W.Walk.laws First (over_of g.W.Walk g.met.W.Walk.laws First _ _) c.seek_to_first.ensures.moves)

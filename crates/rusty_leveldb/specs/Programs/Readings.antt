@@ -10,13 +10,13 @@ use Rattle.leveldb_base.specs.Names.{IsNumber}
 use Rattle.rusty_leveldb.specs.Programs.Language.{hex_word, item_word, move_word, words_text, IsViewWord, IsLine, HasBytes, ItemHasBytes, MoveHasBytes, IsNoLine}
 
 -- the bytes that a word encodes
-abbrev pub IsWord : List ℕ → List ℕ → Type 0
-IsWord word bytes = IsBytes bytes × (word ≡ hex_word bytes)
+abbrev pub IsHexWord : List ℕ → List ℕ → Type 0
+IsHexWord word bytes = IsBytes bytes × (word ≡ hex_word bytes)
 
 -- what a word was read as
 abbrev pub IsWordReading : List ℕ → Option (Vec ℕ Global) → Type 0
-IsWordReading word None = (bytes : List ℕ) → IsWord word bytes → ⊥
-IsWordReading word (Some bytes) = IsWord word bytes.items
+IsWordReading word None = (bytes : List ℕ) → IsHexWord word bytes → ⊥
+IsWordReading word (Some bytes) = IsHexWord word bytes.items
 
 -- two words, parted by a byte
 abbrev pub IsPair : ℕ → List ℕ → List ℕ → List ℕ → Type 0
