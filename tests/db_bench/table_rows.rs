@@ -6,7 +6,6 @@ use crate::report::{Outcome, Run, Tally, Timer};
 use crate::rows::Job;
 use leveldb_base::cmp::{Cmp, DefaultCmp};
 use leveldb_base::error::{Result, StatusCode, err};
-use leveldb_env::compressor::CompressorList;
 use leveldb_env::env::Env;
 use leveldb_env::filter::BloomPolicy;
 use leveldb_env::mem_env::MemEnv;
@@ -14,7 +13,7 @@ use leveldb_env::options::Options;
 use leveldb_table::block_cache::BlockCache;
 use leveldb_table::cache::Cache;
 use leveldb_table::table_builder::TableBuilder;
-use leveldb_table::table_reader::{Table, TableIterator};
+use leveldb_table::table_reader::{Table, TableIterator, TableReader};
 use std::alloc::Global;
 use std::time::Clock;
 
@@ -123,10 +122,7 @@ pub fn open<K: Clock>(alloc: Global, clock: &K, job: Job) -> Result<Run>
 // Gets the values of the next numbers' keys.
 fn get_all<E: Env>(
     alloc: Global,
-    table: &Opened<E>,
-    env: &mut E,
-    cache: &mut Blocks,
-    compressors: &CompressorList,
+    reader: &mut TableReader<'_, E, DefaultCmp, BloomPolicy>,
     numbers: &mut Numbers,
     ops: u64,
     checked: bool,
@@ -136,7 +132,7 @@ fn get_all<E: Env>(
     let mut tally = Tally::new(checked);
     for _ in 0..ops {
         let key = key_of(numbers.next_number());
-        if let Some((_, value)) = table.get(alloc, env, cache, compressors, &key)? {
+        if let Some((_, value)) = reader.get(alloc, &key)? {
             tally.see(value.as_slice());
         }
     }
@@ -154,24 +150,19 @@ pub fn get<K: Clock>(alloc: Global, clock: &K, job: Job) -> Result<Run>
     let size = put_table(alloc, &options, &mut env, job)?;
     let table = open_table(alloc, &options, &mut env, &mut cache, size)?;
     let mut numbers = Numbers::random(num);
-    let compressors = &options.compressor_list;
+    let mut reader = TableReader {
+        table: &table,
+        env: &mut env,
+        cache: &mut cache,
+        compressors: &options.compressor_list,
+    };
     let timer = Timer::start(clock)?;
-    timer.stop(get_all(
-        alloc,
-        &table,
-        &mut env,
-        &mut cache,
-        compressors,
-        &mut numbers,
-        num,
-        job.checked,
-    )?)
+    timer.stop(get_all(alloc, &mut reader, &mut numbers, num, job.checked)?)
 }
 
 // Goes to so many pairs, one after another.
 fn step_all<E: Env>(
     it: &mut TableIterator<'_, E, DefaultCmp, BloomPolicy>,
-    compressors: &CompressorList,
     ops: u64,
     checked: bool,
 ) -> Result<Outcome>
@@ -179,7 +170,7 @@ fn step_all<E: Env>(
 {
     let mut tally = Tally::new(checked);
     for _ in 0..ops {
-        it.advance(compressors)?;
+        it.advance()?;
         if let Some((key, value)) = it.current() {
             tally.see(key);
             tally.see(value);
@@ -197,12 +188,8 @@ pub fn scan<K: Clock>(alloc: Global, clock: &K, job: Job) -> Result<Run>
     let mut cache = Cache::new(alloc, CACHED)?;
     let size = put_table(alloc, &options, &mut env, job)?;
     let table = open_table(alloc, &options, &mut env, &mut cache, size)?;
-    let mut it = table.iter(alloc, &mut env, &mut cache)?;
+    let compressors = &options.compressor_list;
+    let mut it = table.iter(alloc, &mut env, &mut cache, compressors)?;
     let timer = Timer::start(clock)?;
-    timer.stop(step_all(
-        &mut it,
-        &options.compressor_list,
-        job.scale.num,
-        job.checked,
-    )?)
+    timer.stop(step_all(&mut it, job.scale.num, job.checked)?)
 }

@@ -51,8 +51,8 @@ pub(super) fn read_into(
     let open = env.open_random_access_file(&table_file_name(alloc, "db", file.num)?)?;
     let mut cache = Cache::new(alloc, 4)?;
     let table = Table::new(alloc, &options, env, &mut cache, open, file.size)?;
-    let mut walk = table.iter(alloc, env, &mut cache)?;
-    while walk.advance(&options.compressor_list)? {
+    let mut walk = table.iter(alloc, env, &mut cache, &options.compressor_list)?;
+    while walk.advance()? {
         if let Some((key, value)) = walk.current() {
             pairs.push((
                 Bytes::copy_from_slice(alloc, key)?,

@@ -77,11 +77,10 @@ fn build(
 fn are_alike(
     found: &mut TablePairs<'_>,
     wanted: &mut MemtableIterator<'_, DefaultCmp>,
-    options: &Options<DefaultCmp, BloomPolicy>,
     count: usize,
 ) -> Result<bool> {
     for _ in 0..=count {
-        let there = found.advance(&options.compressor_list)?;
+        let there = found.advance()?;
         if there != wanted.advance()? || found.current() != wanted.current() {
             return Ok(false);
         }
@@ -100,8 +99,8 @@ fn is_table_of(
     let file = env.open_random_access_file(PATH)?;
     let mut cache = Cache::new(alloc, 4)?;
     let table = Table::new(alloc, options, env, &mut cache, file, size)?;
-    let mut found = table.iter(alloc, env, &mut cache)?;
-    are_alike(&mut found, &mut memtable.iter(), options, memtable.len())
+    let mut found = table.iter(alloc, env, &mut cache, &options.compressor_list)?;
+    are_alike(&mut found, &mut memtable.iter(), memtable.len())
 }
 
 /// Builds a table by so many calls, asserts that it has the memtable's pairs from its first key to

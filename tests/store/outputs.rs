@@ -157,9 +157,9 @@ pub fn pairs_of<E: Env>(
     let open = env.open_random_access_file(&path_of(alloc, file.num)?)?;
     let mut cache = Cache::new(alloc, 4)?;
     let table = Table::new(alloc, options, env, &mut cache, open, file.size)?;
-    let mut walk = table.iter(alloc, env, &mut cache)?;
+    let mut walk = table.iter(alloc, env, &mut cache, &options.compressor_list)?;
     let mut pairs = Vec::new(alloc);
-    while walk.advance(&options.compressor_list)? {
+    while walk.advance()? {
         let Some((key, value)) = walk.current() else {
             break;
         };

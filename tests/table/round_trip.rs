@@ -115,10 +115,9 @@ fn look_up<E: Env, C: Cmp + Copy + Drop, FP: FilterPolicy + Copy + Drop>(
 fn pairs_forward<E: Env, C: Cmp + Copy + Drop, FP: FilterPolicy>(
     alloc: Global,
     it: &mut TableIterator<'_, E, C, FP>,
-    compressors: &CompressorList,
 ) -> Result<Vec<(Bytes, Bytes)>> {
     let mut passed = Vec::new(alloc);
-    it.advance(compressors)?;
+    it.advance()?;
     for step in 0..u64::MAX {
         let Some((key, value)) = it.current() else {
             return Ok(passed);
@@ -126,7 +125,7 @@ fn pairs_forward<E: Env, C: Cmp + Copy + Drop, FP: FilterPolicy>(
         let key = Bytes::copy_from_slice(alloc, key)?;
         let value = Bytes::copy_from_slice(alloc, value)?;
         passed.push((key, value))?;
-        it.advance(compressors)?;
+        it.advance()?;
     }
     err(alloc, StatusCode::NotSupported, TOO_MANY)
 }
@@ -135,10 +134,9 @@ fn pairs_forward<E: Env, C: Cmp + Copy + Drop, FP: FilterPolicy>(
 fn pairs_back<E: Env, C: Cmp + Copy + Drop, FP: FilterPolicy>(
     alloc: Global,
     it: &mut TableIterator<'_, E, C, FP>,
-    compressors: &CompressorList,
 ) -> Result<Vec<(Bytes, Bytes)>> {
     let mut passed = Vec::new(alloc);
-    it.seek_to_last(compressors)?;
+    it.seek_to_last()?;
     for step in 0..u64::MAX {
         let Some((key, value)) = it.current() else {
             return Ok(passed);
@@ -146,7 +144,7 @@ fn pairs_back<E: Env, C: Cmp + Copy + Drop, FP: FilterPolicy>(
         let key = Bytes::copy_from_slice(alloc, key)?;
         let value = Bytes::copy_from_slice(alloc, value)?;
         passed.push((key, value))?;
-        it.prev(compressors)?;
+        it.prev()?;
     }
     err(alloc, StatusCode::NotSupported, TOO_MANY)
 }
@@ -159,10 +157,9 @@ fn pairs_both_ways<E: Env, C: Cmp + Copy + Drop, FP: FilterPolicy + Copy + Drop>
     cache: &mut BlockCache<C>,
     table: &Table<E, C, FP>,
 ) -> Result<BothWays> {
-    let compressors = &options.compressor_list;
-    let mut it = table.iter(alloc, env, cache)?;
-    let forward = pairs_forward(alloc, &mut it, compressors)?;
-    let back = pairs_back(alloc, &mut it, compressors)?;
+    let mut it = table.iter(alloc, env, cache, &options.compressor_list)?;
+    let forward = pairs_forward(alloc, &mut it)?;
+    let back = pairs_back(alloc, &mut it)?;
     Ok(BothWays { forward, back })
 }
 

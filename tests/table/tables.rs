@@ -18,7 +18,7 @@ use leveldb_table::block_cache::BlockCache;
 use leveldb_table::cache::Cache;
 use leveldb_table::table_block::{read_filter_block, read_table_block};
 use leveldb_table::table_builder::Footer;
-use leveldb_table::table_reader::{KeyBuffers, Table, TableCore, TableIterator};
+use leveldb_table::table_reader::{KeyBuffers, Table, TableCore, TableIterator, TableReader};
 use std::alloc::Global;
 use std::process::Abort;
 use support::{ShortReads, change_byte, failed_with};
@@ -116,47 +116,43 @@ fn is_at<E: Env, C: Cmp + Copy + Drop, FP: FilterPolicy>(
 /// Whether a step goes to this pair, or to no position where that is none.
 fn steps_to<E: Env, FP: FilterPolicy>(
     it: &mut TableIterator<'_, E, DefaultCmp, FP>,
-    compressors: &CompressorList,
     pair: Option<Given<'_>>,
 ) -> Result<bool> {
-    Ok(it.advance(compressors)? == pair.is_some() && is_at(it, pair))
+    Ok(it.advance()? == pair.is_some() && is_at(it, pair))
 }
 
 /// Whether a seek goes to this pair, or to no position where that is none.
 fn seeks_to<E: Env, FP: FilterPolicy>(
     it: &mut TableIterator<'_, E, DefaultCmp, FP>,
-    compressors: &CompressorList,
     key: &[u8],
     pair: Option<Given<'_>>,
 ) -> Result<bool> {
-    it.seek(compressors, key)?;
+    it.seek(key)?;
     Ok(is_at(it, pair))
 }
 
 /// Whether a step goes to each pair in turn, and then to no position.
 fn goes_forward<E: Env, FP: FilterPolicy>(
     it: &mut TableIterator<'_, E, DefaultCmp, FP>,
-    compressors: &CompressorList,
     pairs: &[Given<'_>],
 ) -> Result<bool> {
     for pair in pairs {
-        if !steps_to(it, compressors, Some(*pair))? {
+        if !steps_to(it, Some(*pair))? {
             return Ok(false);
         }
     }
-    steps_to(it, compressors, None)
+    steps_to(it, None)
 }
 
 /// Goes through all pairs, past the last, and to the first again.
 fn check_forward<E: Env, FP: FilterPolicy>(
     rt: &impl Abort,
     it: &mut TableIterator<'_, E, DefaultCmp, FP>,
-    compressors: &CompressorList,
     pairs: &[Given<'_>],
 ) -> Result<()> {
-    assert!(rt; goes_forward(it, compressors, pairs)?);
-    assert!(rt; !it.prev(compressors)?);
-    it.seek_to_first(compressors)?;
+    assert!(rt; goes_forward(it, pairs)?);
+    assert!(rt; !it.prev()?);
+    it.seek_to_first()?;
     assert!(rt; is_at(it, pairs.first().copied()));
     Ok(())
 }
@@ -165,25 +161,23 @@ fn check_forward<E: Env, FP: FilterPolicy>(
 /// again.
 fn turns_at<E: Env, FP: FilterPolicy>(
     it: &mut TableIterator<'_, E, DefaultCmp, FP>,
-    compressors: &CompressorList,
     before: Option<Given<'_>>,
     pair: Given<'_>,
 ) -> Result<bool> {
-    let is_here = seeks_to(it, compressors, pair.0, Some(pair))?;
-    let is_before = it.prev(compressors)? == before.is_some() && is_at(it, before);
-    Ok(is_here && is_before && steps_to(it, compressors, Some(pair))?)
+    let is_here = seeks_to(it, pair.0, Some(pair))?;
+    let is_before = it.prev()? == before.is_some() && is_at(it, before);
+    Ok(is_here && is_before && steps_to(it, Some(pair))?)
 }
 
 /// At each pair goes back and forward.
 fn check_turns<E: Env, FP: FilterPolicy>(
     rt: &impl Abort,
     it: &mut TableIterator<'_, E, DefaultCmp, FP>,
-    compressors: &CompressorList,
     pairs: &[Given<'_>],
 ) -> Result<()> {
     let mut before = None;
     for pair in pairs {
-        assert!(rt; turns_at(it, compressors, before, *pair)?, "at {pair:?}");
+        assert!(rt; turns_at(it, before, *pair)?, "at {pair:?}");
         before = Some(*pair);
     }
     Ok(())
@@ -193,12 +187,11 @@ fn check_turns<E: Env, FP: FilterPolicy>(
 fn check_seeks<E: Env, FP: FilterPolicy>(
     rt: &impl Abort,
     it: &mut TableIterator<'_, E, DefaultCmp, FP>,
-    compressors: &CompressorList,
     pairs: &[Given<'_>],
 ) -> Result<()> {
     for key in &PROBES {
         let first = first_from(pairs, key);
-        assert!(rt; seeks_to(it, compressors, key, first)?, "from {key:?}");
+        assert!(rt; seeks_to(it, key, first)?, "from {key:?}");
     }
     it.reset();
     assert!(rt; !it.valid());
@@ -209,56 +202,24 @@ fn check_seeks<E: Env, FP: FilterPolicy>(
 fn check_moves<E: Env, FP: FilterPolicy>(
     rt: &impl Abort,
     it: &mut TableIterator<'_, E, DefaultCmp, FP>,
-    compressors: &CompressorList,
     pairs: &[Given<'_>],
 ) -> Result<()> {
-    check_forward(rt, it, compressors, pairs)?;
-    check_turns(rt, it, compressors, pairs)?;
-    check_seeks(rt, it, compressors, pairs)
-}
-
-/// An open table, with what its calls are given.
-#[derive(Drop)]
-struct Reader<'a, E: Env, FP: FilterPolicy> {
-    table: &'a Table<E, DefaultCmp, FP>,
-    env: &'a mut E,
-    cache: &'a mut BlockCache<DefaultCmp>,
-    compressors: &'a CompressorList,
-}
-
-impl<E: Env, FP: FilterPolicy> Reader<'_, E, FP> {
-    /// Looks a key up by itself.
-    fn get(&mut self, alloc: Global, key: &[u8]) -> Result<Option<(Bytes, Bytes)>> {
-        self.table
-            .get(alloc, self.env, self.cache, self.compressors, key)
-    }
-
-    /// Looks a key up with a finder.
-    fn find(
-        &mut self,
-        alloc: Global,
-        key: &[u8],
-        key_buffers: &mut KeyBuffers,
-    ) -> Result<Option<Bytes>> {
-        self.table.find(
-            alloc,
-            self.env,
-            self.cache,
-            self.compressors,
-            key,
-            key_buffers,
-        )
-    }
+    check_forward(rt, it, pairs)?;
+    check_turns(rt, it, pairs)?;
+    check_seeks(rt, it, pairs)
 }
 
 /// Walks over a table of these pairs in all ways.
 fn check_walks<E: Env, FP: FilterPolicy>(
     rt: &(impl Abort + AllocGlobal),
-    reader: &mut Reader<'_, E, FP>,
+    reader: &mut TableReader<'_, E, DefaultCmp, FP>,
     pairs: &[Given<'_>],
 ) -> Result<()> {
-    let mut it = reader.table.iter(rt.alloc(), reader.env, reader.cache)?;
-    check_moves(rt, &mut it, reader.compressors, pairs)
+    let (env, cache) = (&mut *reader.env, &mut *reader.cache);
+    let mut it = reader
+        .table
+        .iter(rt.alloc(), env, cache, reader.compressors)?;
+    check_moves(rt, &mut it, pairs)
 }
 
 /// Whether what was found for a key is the first pair at or after it; a filter may rule out a key
@@ -293,7 +254,7 @@ fn is_same_find(
 /// Whether the first of these pairs at or after a key is found, by itself and with a finder.
 fn finds<E: Env, FP: FilterPolicy>(
     alloc: Global,
-    reader: &mut Reader<'_, E, FP>,
+    reader: &mut TableReader<'_, E, DefaultCmp, FP>,
     key: &[u8],
     key_buffers: &mut KeyBuffers,
     pairs: &[Given<'_>],
@@ -308,7 +269,7 @@ fn finds<E: Env, FP: FilterPolicy>(
 /// Looks up keys, each by itself and with one finder for all.
 fn check_gets<E: Env, FP: FilterPolicy>(
     rt: &(impl Abort + AllocGlobal),
-    reader: &mut Reader<'_, E, FP>,
+    reader: &mut TableReader<'_, E, DefaultCmp, FP>,
     pairs: &[Given<'_>],
     filtered: bool,
 ) -> Result<()> {
@@ -323,7 +284,7 @@ fn check_gets<E: Env, FP: FilterPolicy>(
 /// Walks over a table of these pairs in all ways, and looks up keys.
 fn check_reads<E: Env, FP: FilterPolicy>(
     rt: &(impl Abort + AllocGlobal),
-    reader: &mut Reader<'_, E, FP>,
+    reader: &mut TableReader<'_, E, DefaultCmp, FP>,
     pairs: &[Given<'_>],
     filtered: bool,
 ) -> Result<()> {
@@ -342,7 +303,7 @@ fn check_table<E: Env, FP: FilterPolicy + Copy + Drop>(
     let bytes = table_of(rt, options, pairs)?;
     let mut cache = Cache::new(rt.alloc(), 3)?;
     let table = open_file(rt.alloc(), options, env, &mut cache, &bytes)?;
-    let mut reader = Reader {
+    let mut reader = TableReader {
         table: &table,
         env,
         cache: &mut cache,
@@ -445,8 +406,8 @@ impl Opened {
         &'a mut self,
         cache: &'a mut BlockCache<DefaultCmp>,
         compressors: &'a CompressorList,
-    ) -> Reader<'a, MemEnv, NoFilterPolicy> {
-        Reader {
+    ) -> TableReader<'a, MemEnv, DefaultCmp, NoFilterPolicy> {
+        TableReader {
             table: &self.table,
             env: &mut self.env,
             cache,

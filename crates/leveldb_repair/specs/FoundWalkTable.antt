@@ -14,14 +14,16 @@ use Rattle.leveldb_env.specs.Env.{bytes_of}
 use Rattle.leveldb_env.specs.declared.env.Env.{Ghosts as EnvGhosts}
 use Rattle.leveldb_iter.specs.Walk.{KeyOrder, IsSortedIn, key_order}
 use Rattle.leveldb_table.specs.BlockCache.{HoldsOnlyOf}
+use Rattle.leveldb_table.specs.Cache.{Cached}
 use Rattle.leveldb_table.specs.OpenTable.{file_of, id_of}
 use Rattle.leveldb_table.specs.Table.{Part}
 use Rattle.leveldb_table.specs.TableBlock.{FileHas, HasLackCode, IsLackError, KeepsDisk, ReadsFile}
-use Rattle.leveldb_table.specs.TableReader.{HasParts, IsNoIndex, pairs_in}
+use Rattle.leveldb_table.specs.TableReader.{HasParts, IsNoIndex, OpenTable, pairs_in}
 use Rattle.leveldb_table.specs.TableReaderBlocks.{IsIndexed}
 use Rattle.leveldb_table.specs.TableReaderMoves.{Backward, Forward, ToFirst, ToKey, ToLast}
 use Rattle.leveldb_table.specs.TableReaderSteps.{StepTo}
-use Rattle.leveldb_table.specs.TableReaderWalk.{IsAtPosition, MovesInTable, current_of, inner_position}
+use Rattle.leveldb_table.specs.TableReaderWalk.{IsAtPosition, MovesInTable, TablePlace, current_of, inner_position}
+use Rattle.leveldb_table.specs.declared.block_cache.CachedBlock.{CachedBlock}
 use Rattle.leveldb_files.specs.Stores.Paths.{table_path}
 use Rattle.leveldb_files.specs.Stores.Store.{IsStoreTable}
 use Rattle.leveldb_version.specs.Tables.TableCache.{ForBytesAt, HasBytesAt, files_at}
@@ -81,6 +83,17 @@ module _ {E F : Type 0} (env : EnvGhosts E F) where
     pub disk : KeepsDisk env first.0 second.0
     pub later : env.failures first.0 ≤ env.failures second.0
 
+module _ {E C FP F : Type 0} (order : CmpGhosts C) (env : EnvGhosts E F) (codings : Codings)
+    (table : OpenTable C FP F) where
+  -- what a move comes to in an open table, whatever its file is
+  abbrev pub MovesInOpen : FoundMove → E → Cached (CachedBlock C) → TablePlace C
+      → Result Bool Status → E → Cached (CachedBlock C) → TablePlace C → Type 0
+  MovesInOpen to old_env old_blocks old result new_env new_blocks new =
+      MovesInTable order env codings (order.accepts table.cmp) (order.cmp table.cmp) (id_of table)
+      (file_of table) (λ parts. IsFit (order.accepts table.cmp) to)
+      (way_of to (order.cmp table.cmp)) (found_step order to) old_env old_blocks old result new_env
+      new_blocks new
+
 module _ {E C F : Type 0} (order : CmpGhosts (InternalKeyCmp C)) (env : EnvGhosts E F) where
   module _ (codings : Codings) where
     -- The disk is modelled, and the walk's file has these bytes, with these data blocks, which are
@@ -100,10 +113,8 @@ module _ {E C F : Type 0} (order : CmpGhosts (InternalKeyCmp C)) (env : EnvGhost
         (result : Result Bool Status) (new_env : E) (new : FoundTable E C F) : Type 0 where
       -- it is a walk over the same table
       pub table : new.table ≡ old.table
-      pub moves : MovesInTable order env codings (order.accepts old.table.cmp)
-          (order.cmp old.table.cmp) (id_of old.table) (file_of old.table)
-          (λ parts. IsFit (order.accepts old.table.cmp) to) (way_of to (order.cmp old.table.cmp))
-          (found_step order to) old_env old.blocks old.core result new_env new.blocks new.core
+      pub moves : MovesInOpen order env codings old.table to old_env old.blocks old.core result
+          new_env new.blocks new.core
       -- the result says whether it is at a pair
       pub there : IfOk result (λ there. there ≡ is_some (inner_position new.core.inner))
 

@@ -11,6 +11,7 @@ use leveldb_iter::in_memory::InMemory;
 use leveldb_iter::walk::Walk;
 
 mod files;
+mod moves;
 mod open;
 mod table;
 

@@ -29,6 +29,4 @@ pub fn repairs_lose_nothing_on_the_way<C: UserCmp + Copy, FP: FilterPolicy + Cop
     ensures crash { (store : List ℕ) → CrashesInsideLeaveFound (choices_of C.Cmp FP.FilterPolicy
         ⟦<InternalKeyCmp<C> as Cmp>⟧ ⟦<InternalFilterPolicy<FP> as FilterPolicy>⟧
         ⟦<CompressorList as Compressors>⟧.codings options.now) store }
-{
-    let _ = options;
-}
+{}

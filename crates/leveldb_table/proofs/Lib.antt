@@ -15,6 +15,7 @@ pub mod TableBuilderFinishLemmas
 pub mod TableReaderLemmas
 pub mod TableReaderWalkLemmas
 pub mod TableReaderMovesLemmas
+mod TableReadsLemmas
 pub mod TableMoreLemmas
 pub mod ReadableTableLemmas
 pub mod ReadableFileLemmas

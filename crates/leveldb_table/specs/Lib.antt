@@ -22,5 +22,6 @@ pub mod TableReaderWalk
 pub mod TableReaderMoves
 pub mod TableReaderSteps
 pub mod TableReaderBlocks
+pub mod TableReads
 pub mod OpenTable
 pub mod ReadableTable

@@ -126,14 +126,3 @@ module _ {C : Type 0} (order : CmpGhosts C) where
         (λ bytes. IsBlockOfFile order codings cmp bytes offset held)) old_cache new_cache
     pub same_lines : pairs_over new.index ≡ pairs_over old.index
     pub same_order : new.index.block.cmp ≡ old.index.block.cmp
-
-module _ {E C FP F T : Type 0} (order : CmpGhosts C) where
-  -- such a move over an open table
-  abbrev pub MovesOverFromLine : EnvGhosts E F → Codings → OpenTable C FP F
-      → (List Part → Option ℕ → Type 0)
-      → (Codings → (List ℕ → List ℕ → Ordering) → List ℕ → TablePlace C → Outcome → Type 0)
-      → E → Cached (CachedBlock C) → TablePlace C → Result T Status
-      → E → Cached (CachedBlock C) → TablePlace C → Type 0
-  MovesOverFromLine env codings table Fit Step old_env old_cache old result new_env new_cache new =
-      MovesFromLine order env codings (order.accepts table.cmp) (order.cmp table.cmp) table.id
-      table.file Fit Step old_env old_cache old result new_env new_cache new

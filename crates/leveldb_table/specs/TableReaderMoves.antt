@@ -18,7 +18,7 @@ use Rattle.leveldb_table.specs.BlockCache.{HoldsOnlyOf}
 use Rattle.leveldb_table.specs.Table.{Part, index_pair}
 use Rattle.leveldb_table.specs.TableReader.{OpenTable, lines_of, may_contain, HasParts, found_in, GainsBlocksOf}
 use Rattle.leveldb_table.specs.TableBlock.{IsNamedBy, NamesNone, LacksLine, ForBytesOf, IsLackError, ReadsFile}
-use Rattle.leveldb_table.specs.TableReaderWalk.{TablePlace, MovesInTable, TablePosition, Outcome, IsNamed, inner_position, table_position}
+use Rattle.leveldb_table.specs.TableReaderWalk.{TablePlace, TablePosition, Outcome, IsNamed, inner_position, table_position}
 use Rattle.leveldb_table.specs.declared.block_cache.CachedBlock.{CachedBlock}
 
 -- it comes to no line, and to no pair
@@ -238,43 +238,3 @@ module _ {C : Type 0} (order : CmpGhosts C) where
       → List ℕ → TablePlace C → Outcome → Type 0
   ToKeyIfLet may_contain key codings cmp bytes old out =
       LookUpFromLine codings cmp bytes (pairs_over old.index) may_contain key (line_for key old) out
-
--- ---- the moves of a walk over an open table
-
-module _ {E C FP F T : Type 0} (order : CmpGhosts C) (env : EnvGhosts E F) (codings : Codings)
-    (table : OpenTable C FP F) where
-  -- a move over the table's file, which leads to a position and is this step
-  abbrev pub MovesOver : (List Part → Type 0) → (List Pair → Option ℕ → Option ℕ)
-      → (Codings → (List ℕ → List ℕ → Ordering) → List ℕ → TablePlace C → Outcome → Type 0)
-      → E → Cached (CachedBlock C) → TablePlace C → Result T Status
-      → E → Cached (CachedBlock C) → TablePlace C → Type 0
-  MovesOver Fit to Step old_env old_cache old result new_env new_cache new =
-      MovesInTable order env codings (order.accepts table.cmp) (order.cmp table.cmp) table.id
-      table.file Fit to Step old_env old_cache old result new_env new_cache new
-
-  -- to the next pair
-  abbrev pub Advances : E → Cached (CachedBlock C) → TablePlace C → Result T Status
-      → E → Cached (CachedBlock C) → TablePlace C → Type 0
-  Advances = MovesOver (λ _. Unit {0}) next_position Forward
-
-  -- to the pair before
-  abbrev pub StepsBack : E → Cached (CachedBlock C) → TablePlace C → Result T Status
-      → E → Cached (CachedBlock C) → TablePlace C → Type 0
-  StepsBack = MovesOver (λ _. Unit {0}) (λ _. previous_position) Backward
-
-  -- to the first pair at or after a key, which is accepted
-  abbrev pub SeeksKey : List ℕ → E → Cached (CachedBlock C) → TablePlace C
-      → Result T Status → E → Cached (CachedBlock C) → TablePlace C → Type 0
-  SeeksKey key =
-      MovesOver (λ _. order.accepts table.cmp key ≡ true)
-      (λ pairs _. seek_position (order.cmp table.cmp) pairs key) (ToKey order key)
-
-  -- to the first pair
-  abbrev pub SeeksFirst : E → Cached (CachedBlock C) → TablePlace C → Result T Status
-      → E → Cached (CachedBlock C) → TablePlace C → Type 0
-  SeeksFirst = MovesOver (λ _. Unit {0}) (λ pairs _. position_within pairs 0) ToFirst
-
-  -- to the last pair
-  abbrev pub SeeksLast : E → Cached (CachedBlock C) → TablePlace C → Result T Status
-      → E → Cached (CachedBlock C) → TablePlace C → Type 0
-  SeeksLast = MovesOver (λ _. Unit {0}) (λ pairs _. last_position pairs) ToLast

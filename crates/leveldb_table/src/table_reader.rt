@@ -1,25 +1,19 @@
 //! Tables: files that are opened once, and then looked up and walked block by block.
 // LevelDB: table/table.cc
-ghost use Rattle.std.specs.Prelude.{◌≡◌, ◌⊎◌, ◌+◌, ◌^◌, ◌<◌, List, ℕ, Bool, true, None, Some, length, map, IfOk, IfSome, IfErr, Err, OnErr, IsErrAnd, MatchOption};
-ghost use Rattle.leveldb_base.specs.Cmp.{bytewise};
+ghost use Rattle.std.specs.Prelude.{◌≡◌, ◌⊎◌, ◌+◌, ◌<◌, List, true, None, Some, length, map, IfOk, IfErr, MatchOption};
 ghost use Rattle.leveldb_base.specs.BlockHandle.{Handle, handle_bytes, HandleFits};
-ghost use Rattle.leveldb_base.specs.Types.{Pair};
 ghost use Rattle.leveldb_base.specs.Error.{IsOutOfMemory};
 ghost use Rattle.leveldb_base.specs.declared.error.StatusCode.TheVariants.{Corruption, NotSupported};
-ghost use Rattle.leveldb_env.specs.Compressor.{Codings, Decodes};
-ghost use Rattle.leveldb_table.specs.Block.{HasEntries, IsBlock, pairs_of};
-ghost use Rattle.leveldb_table.specs.Table.{Part, HasBlockAt, index_pair, filter_key, offset_for};
-ghost use Rattle.leveldb_table.specs.Cache.{looked_for};
-ghost use Rattle.leveldb_table.specs.BlockCache.{HoldsOnlyOf, IsBlockOfFile, GainsBlocks, IsCachedAt, cache_key};
-ghost use Rattle.leveldb_table.specs.TableBlock.{LacksBlock, NamesNone, ReadsFile, FileHas, ForBytesOf, IsLackError};
+ghost use Rattle.leveldb_table.specs.Block.{HasEntries};
+ghost use Rattle.leveldb_table.specs.Table.{Part, index_pair, filter_key};
+ghost use Rattle.leveldb_table.specs.TableBlock.{NamesNone};
 
 use crate::block::Block;
-use crate::block_cache::{BlockCache, CachedBlock, cache_key};
+use crate::block_cache::BlockCache;
 use crate::cache::CacheID;
 use crate::damage::corruption;
 use crate::table_block::read_table_block;
 use crate::table_builder::Footer;
-use bytes::Bytes;
 use leveldb_base::blockhandle::BlockHandle;
 use leveldb_base::cmp::{Cmp, DefaultCmp, InternalKeyCmp, UserCmp};
 use leveldb_base::error::Result;
@@ -36,10 +30,12 @@ use std::marker::Model;
 mod iter;
 mod key_buffers;
 mod open;
+mod reader;
 mod walk;
 
 pub use iter::TableIterator;
 pub use key_buffers::KeyBuffers;
+pub use reader::TableReader;
 pub use walk::{TableCore, TableStep};
 
 /// An open table: its file, its index, and its filters where it has some under the policy's name.
@@ -210,8 +206,7 @@ impl<E: Env, C: Cmp + Copy + Drop, FP: FilterPolicy + Drop> Table<E, C, FP> {
 }
 
 impl<E: Env, C: Cmp + Copy + Drop, FP: FilterPolicy> Table<E, C, FP> {
-    ghost use Rattle.leveldb_table.specs.TableReader.{HandlesFit, IsOffsetBy, lines_of, line_in, meta_of, offset_in, may_contain, GainsBlocksOf};
-    ghost use Rattle.leveldb_table.specs.TableReaderMoves.{LooksUp, found_with};
+    ghost use Rattle.leveldb_table.specs.TableReader.{HandlesFit, IsOffsetBy, lines_of, line_in, meta_of, offset_in, may_contain};
 
     /// The offset of the block that would hold the key, and past the last that of the metaindex.
     /// `Corruption` where the index's line for the key names no handle.
@@ -234,49 +229,6 @@ impl<E: Env, C: Cmp + Copy + Drop, FP: FilterPolicy> Table<E, C, FP> {
         Ok(self.line_handle(alloc, value)?.offset())
     }
 
-    /// The first pair at or after the key, or none where the filters rule out the key at the block
-    /// that the index names for it, or no such pair is there. The key is copied, and the value's
-    /// bytes are shared with their block.
-    pub fn get(
-        &self,
-        alloc: Global,
-        env: &mut E,
-        cache: &mut BlockCache<C>,
-        compressors: &CompressorList,
-        key: &[u8],
-    ) -> Result<Option<(Bytes, Bytes)>>
-        ensures { let codings = ⟦<CompressorList as Compressors>⟧.codings compressors.now in
-            LooksUp C.Cmp E.Env codings FP.matches self.now key.now env.old cache.old result env.new
-            cache.new }
-    {
-        let mut key_buffers = KeyBuffers::new(alloc);
-        let Some(value) = self.find(alloc, env, cache, compressors, key, &mut key_buffers)? else {
-            return Ok(None);
-        };
-        Ok(Some((Bytes::from_vec(key_buffers.into_key())?, value)))
-    }
-
-    /// `get`, but it returns the value alone, and the finder has the pair's key. Where the finder
-    /// has room for the keys and the cache has the block, it takes no memory. Where it finds
-    /// nothing, the finder's key is of no use; an error may leave the finder without room.
-    pub fn find(
-        &self,
-        alloc: Global,
-        env: &mut E,
-        cache: &mut BlockCache<C>,
-        compressors: &CompressorList,
-        key: &[u8],
-        key_buffers: &mut KeyBuffers,
-    ) -> Result<Option<Bytes>>
-        ensures { let codings = ⟦<CompressorList as Compressors>⟧.codings compressors.now in
-            LooksUp C.Cmp E.Env codings FP.matches self.now key.now env.old cache.old
-            (found_with key_buffers.new result) env.new cache.new }
-    {
-        let mut core = TableCore::with_key_buffers(alloc, self, key_buffers)?;
-        core.seek_filtered(self, env, cache, compressors, key)?;
-        core.into_value(key_buffers)
-    }
-
     // The handle that a line of the index has as its value.
     fn line_handle(&self, alloc: Global, value: &[u8]) -> Result<BlockHandle>
         ensures ok { IfOk result
@@ -295,73 +247,6 @@ impl<E: Env, C: Cmp + Copy + Drop, FP: FilterPolicy> Table<E, C, FP> {
             Some(filters) => filters.key_may_match(offset, key),
             None => true,
         }
-    }
-
-    // The block at a handle, from the cache or from the file; that is put into the cache then, if
-    // `fills` says so.
-    fn read_block(
-        &self,
-        alloc: Global,
-        env: &mut E,
-        cache: &mut BlockCache<C>,
-        compressors: &CompressorList,
-        handle: BlockHandle,
-        fills: bool,
-    ) -> Result<Block<C>>
-        ensures reads { let codings = ⟦<CompressorList as Compressors>⟧.codings compressors.now in
-            ReadsFile E.Env (IsLackError E.Env codings (λ bytes.
-            LacksBlock codings (C.cmp self.now.cmp) bytes handle) env.old self.now.file)
-            env.old env.new result }
-        ensures ok { let codings = ⟦<CompressorList as Compressors>⟧.codings compressors.now in
-            IfOk result (λ block. ForBytesOf E.Env env.old self.now.file
-            (λ bytes. HoldsOnlyOf C.Cmp codings (C.cmp self.now.cmp) self.now.id bytes cache.old
-            → HasBlockAt (Decodes codings) bytes handle block.contents
-            × (C.cmp block.cmp ≡ C.cmp self.now.cmp))) }
-        ensures encoded { IfOk result
-            (λ block. HasEntries (C.cmp block.cmp) block.contents block.entries) }
-        ensures gathers { GainsBlocksOf C.Cmp E.Env (⟦<CompressorList as Compressors>⟧.codings
-            compressors.now) self.now env.old cache.old cache.new }
-    {
-        if let Some(found) = self.cached_block(cache, handle)? {
-            return Ok(found);
-        }
-        let block = read_table_block(alloc, self.cmp, env, &self.file, compressors, handle)?;
-        if !fills {
-            return Ok(block);
-        }
-        let copy = block.clone()?;
-        cache.insert(
-            &cache_key(self.id, handle.offset()),
-            CachedBlock {
-                handle,
-                block: copy,
-            },
-        )?;
-        Ok(block)
-    }
-
-    // The block that the cache has at a handle, where it has one of the handle's size. It counts
-    // as used.
-    fn cached_block(
-        &self,
-        cache: &mut BlockCache<C>,
-        handle: BlockHandle,
-    ) -> Result<Option<Block<C>>>
-        ensures ok { IfOk result
-            (λ found. IfSome found (IsCachedAt self.now.id handle cache.old)) }
-        ensures cache { cache.new ≡ record cache.old {
-          pairs =
-              looked_for (cache_key self.now.id handle.offset) cache.old.pairs;
-        } }
-        ensures memory { IfErr result IsOutOfMemory }
-    {
-        let Some(held) = cache.get(&cache_key(self.id, handle.offset())) else {
-            return Ok(None);
-        };
-        if held.handle.size() != handle.size() {
-            return Ok(None);
-        }
-        Ok(Some(held.block.clone()?))
     }
 }
 

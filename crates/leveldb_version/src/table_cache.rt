@@ -19,7 +19,7 @@ use leveldb_env::filter::{FilterPolicy, InternalFilterPolicy};
 use leveldb_env::options::Options;
 use leveldb_table::block_cache::{BlockCache, cache_key};
 use leveldb_table::cache::{Cache, CacheKey};
-use leveldb_table::table_reader::{KeyBuffers, Table};
+use leveldb_table::table_reader::{KeyBuffers, Table, TableReader};
 use std::alloc::Global;
 
 mod moves;
@@ -152,36 +152,33 @@ impl<E: Env, C: UserCmp + Copy + Drop, FP: FilterPolicy + Copy + Drop> TableCach
         let name = table_key(number);
         let compressors = &options.compressor_list;
         if let Some(table) = self.tables.get(&name) {
-            return table.find(
-                self.alloc,
-                env,
-                &mut self.blocks,
+            let mut reader = TableReader {
+                table,
+                env: &mut *env,
+                cache: &mut self.blocks,
                 compressors,
-                key,
-                &mut self.key_buffers,
-            );
+            };
+            return reader.find(self.alloc, key, &mut self.key_buffers);
         }
         let table = self.open(env, options, number)?;
         if self.tables.cap() == 0 {
-            return table.find(
-                self.alloc,
-                env,
-                &mut self.blocks,
+            let mut reader = TableReader {
+                table: &table,
+                env: &mut *env,
+                cache: &mut self.blocks,
                 compressors,
-                key,
-                &mut self.key_buffers,
-            );
+            };
+            return reader.find(self.alloc, key, &mut self.key_buffers);
         }
         self.tables.insert(&name, table)?;
         let table = self.tables.peek(&name).unwrap();
-        table.find(
-            self.alloc,
-            env,
-            &mut self.blocks,
+        let mut reader = TableReader {
+            table,
+            env: &mut *env,
+            cache: &mut self.blocks,
             compressors,
-            key,
-            &mut self.key_buffers,
-        )
+        };
+        reader.find(self.alloc, key, &mut self.key_buffers)
     }
 
     /// The key of the pair that `find` or `get` found last. After one that finds no pair or fails

@@ -85,9 +85,7 @@ pub fn repairs_lose_nothing<E: Env, C: UserCmp + Copy, FP: FilterPolicy + Copy>(
     ensures crash { CrashesOfRepairsLoseNothing E.Env (choices_of C.Cmp FP.FilterPolicy
         ⟦<InternalKeyCmp<C> as Cmp>⟧ ⟦<InternalFilterPolicy<FP> as FilterPolicy>⟧
         ⟦<CompressorList as Compressors>⟧.codings options.now) }
-{
-    let _ = options;
-}
+{}
 
 /// Wherever an honest crash comes, between two requests or at a safe moment inside one, it leaves
 /// a store from which the next life begins: a prefix of the batches handed on, whole ones only,

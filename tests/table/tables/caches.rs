@@ -8,7 +8,7 @@ fn check_both_ways<E: Env, FP: FilterPolicy>(
     env: &mut E,
     cache: &mut BlockCache<DefaultCmp>,
 ) -> Result<()> {
-    let mut reader = Reader {
+    let mut reader = TableReader {
         table,
         env,
         cache,
@@ -107,10 +107,11 @@ fn walk(
     cache: &mut BlockCache<DefaultCmp>,
     fills: bool,
 ) -> Result<usize> {
-    let compressors = CompressorList::default();
     let mut core = TableCore::new(alloc, &opened.table)?.filling(fills);
+    let compressors = CompressorList::default();
+    let mut reader = opened.reader(cache, &compressors);
     let mut count = 0;
-    while core.advance(&opened.table, &mut opened.env, cache, &compressors)? {
+    while core.advance(&mut reader)? {
         count += 1;
     }
     Ok(count)
@@ -138,13 +139,14 @@ fn pairs_from(
     cache: &mut BlockCache<DefaultCmp>,
     key: &[u8],
 ) -> Result<usize> {
-    let compressors = CompressorList::default();
     let mut core = TableCore::new(alloc, &opened.table)?;
-    let _ = core.seek(&opened.table, &mut opened.env, cache, &compressors, key);
+    let compressors = CompressorList::default();
+    let mut reader = opened.reader(cache, &compressors);
+    let _ = core.seek(&mut reader, key);
     let mut count = 0;
     while core.valid() {
         count += 1;
-        let _ = core.advance(&opened.table, &mut opened.env, cache, &compressors);
+        let _ = core.advance(&mut reader);
     }
     Ok(count)
 }

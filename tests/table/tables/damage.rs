@@ -70,11 +70,10 @@ fn by_a_compressor(rt: HostRuntime) -> Result<()> {
 /// Whether a walk goes to these pairs until a step fails by damage, which leaves no position.
 fn step_fails<E: Env, C: Cmp + Copy + Drop, FP: FilterPolicy>(
     it: &mut TableIterator<'_, E, C, FP>,
-    compressors: &CompressorList,
     pairs: &[Given<'_>],
 ) -> Result<bool> {
     for pair in pairs {
-        let answer = it.advance(compressors);
+        let answer = it.advance();
         if answer.is_err() {
             return Ok(failed_with(answer, StatusCode::Corruption)? && is_at(it, None));
         }
@@ -95,7 +94,7 @@ fn walk_fails<E: Env, C: Cmp + Copy + Drop, FP: FilterPolicy + Drop>(
     pairs: &[Given<'_>],
 ) -> Result<bool> {
     match opened {
-        Ok(table) => step_fails(&mut table.iter(alloc, env, cache)?, compressors, pairs),
+        Ok(table) => step_fails(&mut table.iter(alloc, env, cache, compressors)?, pairs),
         answer => failed_with(answer, StatusCode::Corruption),
     }
 }
@@ -339,7 +338,7 @@ fn missing_bytes_say_where(rt: HostRuntime) -> Result<()> {
 /// Whether a key isn't looked up in an open table, and the error says this.
 fn get_says(
     alloc: Global,
-    reader: &mut Reader<'_, MemEnv, BloomPolicy>,
+    reader: &mut TableReader<'_, MemEnv, DefaultCmp, BloomPolicy>,
     text: &str,
 ) -> Result<bool> {
     failed_saying(reader.get(alloc, b"abc"), StatusCode::Corruption, text)
@@ -355,7 +354,7 @@ fn look_up_says(
     let mut env = MemEnv::new(alloc);
     let mut cache = Cache::new(alloc, 0)?;
     let table = open_file(alloc, options, &mut env, &mut cache, bytes)?;
-    let mut reader = Reader {
+    let mut reader = TableReader {
         table: &table,
         env: &mut env,
         cache: &mut cache,
@@ -415,7 +414,7 @@ fn deleted_says(
     let mut cache = Cache::new(alloc, 1)?;
     let table = open_file(alloc, options, &mut env, &mut cache, bytes)?;
     env.delete("table")?;
-    let mut reader = Reader {
+    let mut reader = TableReader {
         table: &table,
         env: &mut env,
         cache: &mut cache,
@@ -465,7 +464,7 @@ fn assert_unfiltered(
     let mut env = MemEnv::new(rt.alloc());
     let mut cache = Cache::new(rt.alloc(), 3)?;
     let table = open_unfiltered(rt.alloc(), options, &mut env, &mut cache, bytes)?;
-    let mut reader = Reader {
+    let mut reader = TableReader {
         table: &table,
         env: &mut env,
         cache: &mut cache,

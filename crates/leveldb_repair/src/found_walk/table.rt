@@ -4,6 +4,7 @@ ghost use Rattle.leveldb_base.specs.Types.{pair_of};
 ghost use Rattle.leveldb_table.specs.TableReaderWalk.{inner_position};
 
 use super::files::{ReadFiles, ReadsFound};
+use super::moves::move_in;
 use leveldb_base::cmp::{Cmp, InternalKeyCmp, UserCmp};
 use leveldb_base::error::Result;
 use leveldb_env::compressor::{CompressorList, Compressors};
@@ -105,24 +106,8 @@ impl<E: Env, C: UserCmp + Copy + Drop> FoundTable<E, C> {
             (⟦<CompressorList as Compressors>⟧.codings compressors.now) to.entry env.old self.old
             result env.new self.new }
     {
-        let table = &self.table;
-        let blocks = &mut self.blocks;
-        match to {
-            FoundMove::Next => self.core.advance(table, env, blocks, compressors),
-            FoundMove::Before => self.core.prev(table, env, blocks, compressors),
-            FoundMove::Seek(key) => {
-                self.core.seek(table, env, blocks, compressors, key)?;
-                Ok(self.core.valid())
-            }
-            FoundMove::First => {
-                self.core.seek_to_first(table, env, blocks, compressors)?;
-                Ok(self.core.valid())
-            }
-            FoundMove::Last => {
-                self.core.seek_to_last(table, env, blocks, compressors)?;
-                Ok(self.core.valid())
-            }
-        }
+        let (core, table, blocks) = (&mut self.core, &self.table, &mut self.blocks);
+        move_in(core, table, env, blocks, compressors, to)
     }
 }
 

@@ -3,7 +3,6 @@
 ghost use Rattle.std.specs.Prelude.{◌≡◌, None, IfOk, IfErr, OnOk, OnErr, is_some};
 ghost use Rattle.leveldb_base.specs.Types.{next_position, previous_position, seek_position, pair_at, last_position};
 ghost use Rattle.leveldb_base.specs.Error.{IsOutOfMemory};
-ghost use Rattle.leveldb_table.specs.Block.{HasEntries};
 ghost use Rattle.leveldb_table.specs.BlockWalk.{IsWithin, pair_with, pairs_over, position_over};
 ghost use Rattle.leveldb_table.specs.BlockLaws.{IsWithin-prop, position_within-is};
 
@@ -55,17 +54,6 @@ impl<C: Cmp> OwnedBlockIter<C> {
             block,
             core: BlockCore::with_room(room),
         }
-    }
-
-    /// The block.
-    pub fn block(&self) -> &Block<C>
-        ensures block { result.now ≡ self.now.block }
-        ensures encoded { HasEntries (C.cmp result.now.cmp) result.now.contents
-            result.now.entries }
-    {
-        // what holds of every block is known where one of its fields is used
-        let _ = &self.block.contents;
-        &self.block
     }
 
     /// The value of the pair at which it is, whose bytes are shared with the block.

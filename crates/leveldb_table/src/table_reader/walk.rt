@@ -1,22 +1,19 @@
 //! A walk over a table that keeps no borrow of it.
 // LevelDB: table/two_level_iterator.cc; table/table.cc, Table::InternalGet
-ghost use Rattle.std.specs.Prelude.{◌≡◌, ◌⊎◌, List, ℕ, None, Some, IfOk, IfErr, IfSome, OnOk, OnErr, IsErrAnd, Option, is_some, true, map};
-ghost use Rattle.std.specs.Option.{IsSomeAnd};
+ghost use Rattle.std.specs.Prelude.{◌≡◌, List, ℕ, None, Some, IfOk, IfErr, IfSome, IsErrAnd, Option, is_some, true};
 ghost use Rattle.std.specs.declared.cmp.Ordering.{Ordering};
-ghost use Rattle.leveldb_base.specs.BlockHandle.{handle_bytes, HandleFits};
-ghost use Rattle.leveldb_base.specs.Types.{next_position, previous_position, seek_position, position_within, pair_of, pair_at, last_position};
+ghost use Rattle.leveldb_base.specs.BlockHandle.{HandleFits};
+ghost use Rattle.leveldb_base.specs.Types.{next_position, previous_position, seek_position, pair_of, pair_at, last_position};
 ghost use Rattle.leveldb_base.specs.Error.{IsOutOfMemory};
 ghost use Rattle.leveldb_base.specs.declared.error.StatusCode.TheVariants.{Corruption};
-ghost use Rattle.leveldb_table.specs.Table.{Part, HasBlockAt};
+ghost use Rattle.leveldb_table.specs.Table.{Part};
 ghost use Rattle.leveldb_table.specs.BlockWalk.{pair_with, pairs_over, position_over};
-ghost use Rattle.leveldb_table.specs.BlockCache.{HoldsOnlyOf, IsBlockOfFile, GainsBlocks};
-ghost use Rattle.leveldb_table.specs.TableReaderBlocks.{IsAfterLine, IsBeforeBlock, IsKeyPosition, IsLetPosition};
-ghost use Rattle.leveldb_table.specs.TableBlock.{LacksBlock, LacksLine, ReadsFile, ForBytesOf, IsLackError, IsNamedBy};
+ghost use Rattle.leveldb_table.specs.TableBlock.{IsNamedBy};
 
 use crate::block::OwnedBlockIter;
 use crate::block_cache::BlockCache;
 use crate::damage::corruption;
-use crate::table_reader::{KeyBuffers, NO_HANDLE, Table};
+use crate::table_reader::{KeyBuffers, NO_HANDLE, Table, TableReader};
 use bytes::Bytes;
 use leveldb_base::blockhandle::BlockHandle;
 use leveldb_base::cmp::Cmp;
@@ -33,8 +30,7 @@ use std::mem;
 // place in the cache.
 const SHORT_WALK: usize = 8;
 
-/// A position in a table, or none. Each move is given the table, always the same one, the `Env`
-/// that has its file, the cache of blocks and the compressors.
+/// A position in a table, or none. Each move is given a reader of the table, always the same one.
 #[derive(Drop)]
 pub struct TableCore<C: Cmp> {
     alloc: Global,
@@ -86,11 +82,11 @@ fn leave<C: Cmp + Drop>(inner: &mut Option<OwnedBlockIter<C>>, room: &mut Vec<u8
 }
 
 impl<C: Cmp + Copy + Drop> TableCore<C> {
-    ghost use Rattle.leveldb_table.specs.TableReaderBlocks.{StartsOver, IsBlockAt, IsBlockOf, line_of, MovesOverFromLine};
-    ghost use Rattle.leveldb_table.specs.TableReaderMoves.{Advances, StepsBack, SeeksKey, SeeksFirst, SeeksLast, ToLast, ToNextBlock, ToPreviousBlock, ToKey, ToKeyIfLet};
-    ghost use Rattle.leveldb_table.specs.TableReader.{pairs_in, lines_of, may_contain, GainsBlocksOf};
-    ghost use Rattle.leveldb_table.specs.TableReaderSteps.{StepsInTable, step_to};
-    ghost use Rattle.leveldb_table.specs.TableReaderWalk.{IsAtPosition, StepsInside, inner_block, inner_position, inner_pairs, current_of};
+    ghost use Rattle.leveldb_table.specs.TableReader.{pairs_in};
+    ghost use Rattle.leveldb_table.specs.TableReaderBlocks.{StartsOver, line_of};
+    ghost use Rattle.leveldb_table.specs.TableReaderSteps.{step_to};
+    ghost use Rattle.leveldb_table.specs.TableReaderWalk.{IsAtPosition, StepsInside, inner_position, inner_pairs, current_of};
+    ghost use Rattle.leveldb_table.specs.TableReads.{IsSameReader, LoadsHandle, LoadsLine, StepsOver, Advances, StepsBack, SeeksKey, SeeksFirst, SeeksLast, EntersNextBlock, EntersBlockBefore, EntersLastBlock, EntersForKey, EntersIfLet};
 
     /// At no position.
     pub fn new<E: Env, FP: FilterPolicy>(
@@ -136,14 +132,11 @@ impl<C: Cmp + Copy + Drop> TableCore<C> {
     /// Returns whether it is at a pair.
     pub fn advance<E: Env, FP: FilterPolicy>(
         &mut self,
-        table: &Table<E, C, FP>,
-        env: &mut E,
-        cache: &mut BlockCache<C>,
-        compressors: &CompressorList,
+        reader: &mut TableReader<'_, E, C, FP>,
     ) -> Result<bool>
-        ensures moves { let codings = ⟦<CompressorList as Compressors>⟧.codings compressors.now in
-            Advances C.Cmp E.Env codings table.now env.old cache.old self.old result env.new
-            cache.new self.new }
+        ensures moves { Advances C.Cmp E.Env ⟦<CompressorList as Compressors>⟧.codings reader.old
+            self.old result reader.new self.new }
+        ensures same { IsSameReader reader.old reader.new }
         ensures there { IfOk result (λ there. there ≡ is_some (inner_position self.new.inner)) }
     {
         if !self.valid() {
@@ -151,21 +144,18 @@ impl<C: Cmp + Copy + Drop> TableCore<C> {
         } else if self.step_forward()? {
             return Ok(true);
         }
-        self.to_next_block(table, env, cache, compressors)
+        self.to_next_block(reader)
     }
 
     /// Moves to the pair before, and from the first or from no position to no position.
     /// Returns whether it is at a pair.
     pub fn prev<E: Env, FP: FilterPolicy>(
         &mut self,
-        table: &Table<E, C, FP>,
-        env: &mut E,
-        cache: &mut BlockCache<C>,
-        compressors: &CompressorList,
+        reader: &mut TableReader<'_, E, C, FP>,
     ) -> Result<bool>
-        ensures moves { let codings = ⟦<CompressorList as Compressors>⟧.codings compressors.now in
-            StepsBack C.Cmp E.Env codings table.now env.old cache.old self.old result env.new
-            cache.new self.new }
+        ensures moves { StepsBack C.Cmp E.Env ⟦<CompressorList as Compressors>⟧.codings reader.old
+            self.old result reader.new self.new }
+        ensures same { IsSameReader reader.old reader.new }
         ensures there { IfOk result (λ there. there ≡ is_some (inner_position self.new.inner)) }
     {
         if !self.valid() {
@@ -174,62 +164,53 @@ impl<C: Cmp + Copy + Drop> TableCore<C> {
         if self.step_back()? {
             return Ok(true);
         }
-        self.to_block_before(table, env, cache, compressors)
+        self.to_block_before(reader)
     }
 
     /// Moves to the first pair whose key is at or after `key`, or to no position where all keys
     /// are before it.
     pub fn seek<E: Env, FP: FilterPolicy>(
         &mut self,
-        table: &Table<E, C, FP>,
-        env: &mut E,
-        cache: &mut BlockCache<C>,
-        compressors: &CompressorList,
+        reader: &mut TableReader<'_, E, C, FP>,
         key: &[u8],
     ) -> Result<()>
-        ensures moves { let codings = ⟦<CompressorList as Compressors>⟧.codings compressors.now in
-            SeeksKey C.Cmp E.Env codings table.now key.now env.old cache.old self.old result env.new
-            cache.new self.new }
+        ensures moves { SeeksKey C.Cmp E.Env ⟦<CompressorList as Compressors>⟧.codings key.now
+            reader.old self.old result reader.new self.new }
+        ensures same { IsSameReader reader.old reader.new }
     {
         leave(&mut self.inner, &mut self.room);
         self.index.seek(key)?;
         let Some((_, value)) = self.index.current() else {
             return Ok(());
         };
-        let handle = table.line_handle(self.alloc, value)?;
-        self.enter(table, env, cache, compressors, handle, key)
+        let handle = reader.table.line_handle(self.alloc, value)?;
+        self.enter(reader, handle, key)
     }
 
     /// Moves to the first pair, or to no position in an empty table.
     pub fn seek_to_first<E: Env, FP: FilterPolicy>(
         &mut self,
-        table: &Table<E, C, FP>,
-        env: &mut E,
-        cache: &mut BlockCache<C>,
-        compressors: &CompressorList,
+        reader: &mut TableReader<'_, E, C, FP>,
     ) -> Result<()>
-        ensures moves { let codings = ⟦<CompressorList as Compressors>⟧.codings compressors.now in
-            SeeksFirst C.Cmp E.Env codings table.now env.old cache.old self.old result env.new
-            cache.new self.new }
+        ensures moves { SeeksFirst C.Cmp E.Env ⟦<CompressorList as Compressors>⟧.codings reader.old
+            self.old result reader.new self.new }
+        ensures same { IsSameReader reader.old reader.new }
     {
         self.reset();
-        self.advance(table, env, cache, compressors)?;
+        self.advance(reader)?;
         Ok(())
     }
 
     /// Moves to the last pair, or to no position in an empty table.
     pub fn seek_to_last<E: Env, FP: FilterPolicy>(
         &mut self,
-        table: &Table<E, C, FP>,
-        env: &mut E,
-        cache: &mut BlockCache<C>,
-        compressors: &CompressorList,
+        reader: &mut TableReader<'_, E, C, FP>,
     ) -> Result<()>
-        ensures moves { let codings = ⟦<CompressorList as Compressors>⟧.codings compressors.now in
-            SeeksLast C.Cmp E.Env codings table.now env.old cache.old self.old result env.new
-            cache.new self.new }
+        ensures moves { SeeksLast C.Cmp E.Env ⟦<CompressorList as Compressors>⟧.codings reader.old
+            self.old result reader.new self.new }
+        ensures same { IsSameReader reader.old reader.new }
     {
-        self.to_last_block(table, env, cache, compressors)?;
+        self.to_last_block(reader)?;
         Ok(())
     }
 
@@ -264,29 +245,26 @@ impl<C: Cmp + Copy + Drop> TableCore<C> {
     /// Makes one of these moves, by the lines of the index. Returns whether it is at a pair then.
     pub fn step<E: Env, FP: FilterPolicy>(
         &mut self,
-        table: &Table<E, C, FP>,
-        env: &mut E,
-        cache: &mut BlockCache<C>,
-        compressors: &CompressorList,
+        reader: &mut TableReader<'_, E, C, FP>,
         to: TableStep,
     ) -> Result<bool>
-        ensures { let codings = ⟦<CompressorList as Compressors>⟧.codings compressors.now in
-            StepsInTable C.Cmp E.Env codings (C.cmp table.now.cmp) table.now.id table.now.file
-            (step_to C.Cmp to.entry) env.old cache.old self.old result env.new cache.new self.new }
+        ensures steps { StepsOver C.Cmp E.Env ⟦<CompressorList as Compressors>⟧.codings
+            (step_to C.Cmp to.entry) reader.old self.old result reader.new self.new }
+        ensures same { IsSameReader reader.old reader.new }
     {
         match to {
             TableStep::First => {
-                self.seek_to_first(table, env, cache, compressors)?;
+                self.seek_to_first(reader)?;
                 Ok(self.valid())
             }
             TableStep::Last => {
-                self.seek_to_last(table, env, cache, compressors)?;
+                self.seek_to_last(reader)?;
                 Ok(self.valid())
             }
-            TableStep::NextBlock => self.to_next_block(table, env, cache, compressors),
-            TableStep::BlockBefore => self.to_block_before(table, env, cache, compressors),
+            TableStep::NextBlock => self.to_next_block(reader),
+            TableStep::BlockBefore => self.to_block_before(reader),
             TableStep::Seek(key) => {
-                self.seek(table, env, cache, compressors, key)?;
+                self.seek(reader, key)?;
                 Ok(self.valid())
             }
         }
@@ -296,17 +274,12 @@ impl<C: Cmp + Copy + Drop> TableCore<C> {
     /// the key at the block that the index names for it. Returns whether it is at a pair.
     pub(crate) fn seek_filtered<E: Env, FP: FilterPolicy>(
         &mut self,
-        table: &Table<E, C, FP>,
-        env: &mut E,
-        cache: &mut BlockCache<C>,
-        compressors: &CompressorList,
+        reader: &mut TableReader<'_, E, C, FP>,
         key: &[u8],
     ) -> Result<bool>
-        ensures enters { let codings = ⟦<CompressorList as Compressors>⟧.codings compressors.now
-            in MovesOverFromLine C.Cmp E.Env codings table.now (IsLetPosition
-            (C.accepts table.now.cmp) (C.cmp table.now.cmp) (may_contain FP.matches table.now)
-            key.now) (ToKeyIfLet C.Cmp (may_contain FP.matches table.now) key.now) env.old
-            cache.old self.old result env.new cache.new self.new }
+        ensures enters { EntersIfLet C.Cmp E.Env ⟦<CompressorList as Compressors>⟧.codings
+            FP.matches key.now reader.old self.old result reader.new self.new }
+        ensures same { IsSameReader reader.old reader.new }
         ensures there { IfOk result (λ there. there ≡ is_some (inner_position self.new.inner)) }
     {
         leave(&mut self.inner, &mut self.room);
@@ -314,11 +287,11 @@ impl<C: Cmp + Copy + Drop> TableCore<C> {
         let Some((_, value)) = self.index.current() else {
             return Ok(false);
         };
-        let handle = table.line_handle(self.alloc, value)?;
-        if !table.may_contain(handle.offset(), key) {
+        let handle = reader.table.line_handle(self.alloc, value)?;
+        if !reader.table.may_contain(handle.offset(), key) {
             return Ok(false);
         }
-        self.enter(table, env, cache, compressors, handle, key)?;
+        self.enter(reader, handle, key)?;
         Ok(self.valid())
     }
 
@@ -349,10 +322,7 @@ impl<C: Cmp + Copy + Drop> TableCore<C> {
     // after the key, or where it has none to the first pair of the next block.
     fn enter<E: Env, FP: FilterPolicy>(
         &mut self,
-        table: &Table<E, C, FP>,
-        env: &mut E,
-        cache: &mut BlockCache<C>,
-        compressors: &CompressorList,
+        reader: &mut TableReader<'_, E, C, FP>,
         handle: BlockHandle,
         key: &[u8],
     ) -> Result<()>
@@ -361,40 +331,35 @@ impl<C: Cmp + Copy + Drop> TableCore<C> {
             ≡ seek_position (C.cmp self.old.index.block.cmp) (pairs_over self.old.index) key.now }
         requires names { IsNamedBy (line_of self.old) handle }
         requires fits { HandleFits handle }
-        ensures enters { let codings = ⟦<CompressorList as Compressors>⟧.codings compressors.now
-            in MovesOverFromLine C.Cmp E.Env codings table.now (IsKeyPosition
-            (C.accepts table.now.cmp) (C.cmp table.now.cmp) key.now) (ToKey C.Cmp key.now) env.old
-            cache.old self.old result env.new cache.new self.new }
+        ensures enters { EntersForKey C.Cmp E.Env ⟦<CompressorList as Compressors>⟧.codings key.now
+            reader.old self.old result reader.new self.new }
+        ensures same { IsSameReader reader.old reader.new }
     {
-        self.load(table, env, cache, compressors, handle, 0)?;
+        self.load(reader, handle, 0)?;
         if self.seek_inside(key)? {
             return Ok(());
         }
-        self.to_next_block(table, env, cache, compressors)?;
+        self.to_next_block(reader)?;
         Ok(())
     }
 
     // Moves to the first pair of the next block, or after the last block to no position.
     fn to_next_block<E: Env, FP: FilterPolicy>(
         &mut self,
-        table: &Table<E, C, FP>,
-        env: &mut E,
-        cache: &mut BlockCache<C>,
-        compressors: &CompressorList,
+        reader: &mut TableReader<'_, E, C, FP>,
     ) -> Result<bool>
-        ensures enters { let codings = ⟦<CompressorList as Compressors>⟧.codings compressors.now
-            in MovesOverFromLine C.Cmp E.Env codings table.now (λ parts position. IsAfterLine parts
-            (position_over self.old.index) position) ToNextBlock env.old cache.old self.old result
-            env.new cache.new self.new }
+        ensures enters { EntersNextBlock C.Cmp E.Env ⟦<CompressorList as Compressors>⟧.codings
+            reader.old self.old result reader.new self.new }
+        ensures same { IsSameReader reader.old reader.new }
         ensures there { IfOk result (λ there. there ≡ is_some (inner_position self.new.inner)) }
     {
         leave(&mut self.inner, &mut self.room);
         if !self.index.advance()? {
             return Ok(false);
         }
-        self.load_line(table, env, cache, compressors)?;
+        self.load_line(reader)?;
         if !self.step_forward()? {
-            return self.empty_block_error(table);
+            return self.empty_block_error(reader.table);
         }
         Ok(true)
     }
@@ -402,24 +367,20 @@ impl<C: Cmp + Copy + Drop> TableCore<C> {
     // Moves to the last pair of the block before, or before the first block to no position.
     fn to_block_before<E: Env, FP: FilterPolicy>(
         &mut self,
-        table: &Table<E, C, FP>,
-        env: &mut E,
-        cache: &mut BlockCache<C>,
-        compressors: &CompressorList,
+        reader: &mut TableReader<'_, E, C, FP>,
     ) -> Result<bool>
-        ensures enters { let codings = ⟦<CompressorList as Compressors>⟧.codings compressors.now
-            in MovesOverFromLine C.Cmp E.Env codings table.now (λ parts position. IsBeforeBlock
-            parts (position_over self.old.index) position) ToPreviousBlock env.old cache.old
-            self.old result env.new cache.new self.new }
+        ensures enters { EntersBlockBefore C.Cmp E.Env ⟦<CompressorList as Compressors>⟧.codings
+            reader.old self.old result reader.new self.new }
+        ensures same { IsSameReader reader.old reader.new }
         ensures there { IfOk result (λ there. there ≡ is_some (inner_position self.new.inner)) }
     {
         leave(&mut self.inner, &mut self.room);
         if !self.index.prev()? {
             return Ok(false);
         }
-        self.load_line(table, env, cache, compressors)?;
+        self.load_line(reader)?;
         if !self.to_last()? {
-            return self.empty_block_error(table);
+            return self.empty_block_error(reader.table);
         }
         Ok(true)
     }
@@ -427,58 +388,39 @@ impl<C: Cmp + Copy + Drop> TableCore<C> {
     // Moves to the last pair of the last block, or without blocks to no position.
     fn to_last_block<E: Env, FP: FilterPolicy>(
         &mut self,
-        table: &Table<E, C, FP>,
-        env: &mut E,
-        cache: &mut BlockCache<C>,
-        compressors: &CompressorList,
+        reader: &mut TableReader<'_, E, C, FP>,
     ) -> Result<bool>
-        ensures enters { let codings = ⟦<CompressorList as Compressors>⟧.codings compressors.now
-            in MovesOverFromLine C.Cmp E.Env codings table.now (λ parts position. position ≡
-            last_position (pairs_in parts)) ToLast env.old cache.old self.old result env.new
-            cache.new self.new }
+        ensures enters { EntersLastBlock C.Cmp E.Env ⟦<CompressorList as Compressors>⟧.codings
+            reader.old self.old result reader.new self.new }
+        ensures same { IsSameReader reader.old reader.new }
     {
         leave(&mut self.inner, &mut self.room);
         self.index.seek_to_last()?;
         if !self.index.valid() {
             return Ok(false);
         }
-        self.load_line(table, env, cache, compressors)?;
+        self.load_line(reader)?;
         if self.to_last()? {
             return Ok(true);
         }
-        self.empty_block_error(table)
+        self.empty_block_error(reader.table)
     }
 
     // Reads the block that the index's line names, and is at no position of it.
     fn load_line<E: Env, FP: FilterPolicy>(
         &mut self,
-        table: &Table<E, C, FP>,
-        env: &mut E,
-        cache: &mut BlockCache<C>,
-        compressors: &CompressorList,
+        reader: &mut TableReader<'_, E, C, FP>,
     ) -> Result<()>
         requires { is_some (line_of self.old) ≡ true }
-        ensures reads { let codings = ⟦<CompressorList as Compressors>⟧.codings compressors.now in
-            ReadsFile E.Env (IsLackError E.Env codings (λ bytes.
-            LacksLine codings (C.cmp table.now.cmp) bytes (line_of self.old)) env.old
-            table.now.file) env.old env.new result }
-        ensures block { let codings = ⟦<CompressorList as Compressors>⟧.codings compressors.now in
-            OnOk result (ForBytesOf E.Env env.old table.now.file
-            (λ bytes. HoldsOnlyOf C.Cmp codings (C.cmp table.now.cmp) table.now.id bytes cache.old
-            → IsBlockOf C.Cmp codings (C.cmp table.now.cmp) bytes (line_of self.old)
-            (inner_block self.new.inner))) }
-        ensures position { OnOk result (inner_position self.new.inner ≡ None) }
-        ensures err { OnErr result (self.new.inner ≡ self.old.inner) }
-        ensures index { self.new.index ≡ self.old.index }
-        ensures gathers { GainsBlocksOf C.Cmp E.Env (⟦<CompressorList as Compressors>⟧.codings
-            compressors.now) table.now env.old cache.old cache.new }
+        ensures { LoadsLine C.Cmp E.Env ⟦<CompressorList as Compressors>⟧.codings reader.old
+            self.old result reader.new self.new }
     {
         let Some((_, value)) = self.index.current() else {
             return Ok(());
         };
-        let handle = table.line_handle(self.alloc, value)?;
+        let handle = reader.table.line_handle(self.alloc, value)?;
         let passed = self.passed.saturating_add(1);
-        self.load(table, env, cache, compressors, handle, passed)
+        self.load(reader, handle, passed)
     }
 
     // Whether a block that it reads after so many others goes into the cache: a long walk would put
@@ -491,30 +433,15 @@ impl<C: Cmp + Copy + Drop> TableCore<C> {
     // position of it.
     fn load<E: Env, FP: FilterPolicy>(
         &mut self,
-        table: &Table<E, C, FP>,
-        env: &mut E,
-        cache: &mut BlockCache<C>,
-        compressors: &CompressorList,
+        reader: &mut TableReader<'_, E, C, FP>,
         handle: BlockHandle,
         passed: usize,
     ) -> Result<()>
-        ensures reads { let codings = ⟦<CompressorList as Compressors>⟧.codings compressors.now in
-            ReadsFile E.Env (IsLackError E.Env codings (λ bytes.
-            LacksBlock codings (C.cmp table.now.cmp) bytes handle) env.old table.now.file)
-            env.old env.new result }
-        ensures block { let codings = ⟦<CompressorList as Compressors>⟧.codings compressors.now in
-            OnOk result (ForBytesOf E.Env env.old table.now.file
-            (λ bytes. HoldsOnlyOf C.Cmp codings (C.cmp table.now.cmp) table.now.id bytes cache.old
-            → IsBlockAt C.Cmp codings (C.cmp table.now.cmp) bytes handle
-            (inner_block self.new.inner))) }
-        ensures position { OnOk result (inner_position self.new.inner ≡ None) }
-        ensures err { OnErr result (self.new.inner ≡ self.old.inner) }
-        ensures index { self.new.index ≡ self.old.index }
-        ensures gathers { GainsBlocksOf C.Cmp E.Env (⟦<CompressorList as Compressors>⟧.codings
-            compressors.now) table.now env.old cache.old cache.new }
+        ensures { LoadsHandle C.Cmp E.Env ⟦<CompressorList as Compressors>⟧.codings handle
+            reader.old self.old result reader.new self.new }
     {
-        let fills = self.fills_after(passed, cache);
-        let block = table.read_block(self.alloc, env, cache, compressors, handle, fills)?;
+        let fills = self.fills_after(passed, reader.cache);
+        let block = reader.read_block(self.alloc, handle, fills)?;
         self.passed = passed;
         let room = mem::replace(&mut self.room, Vec::new(self.alloc));
         self.inner = Some(OwnedBlockIter::with_room(block, room));

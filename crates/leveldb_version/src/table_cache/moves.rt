@@ -11,7 +11,7 @@ use leveldb_env::compressor::{CompressorList, Compressors};
 use leveldb_env::env::Env;
 use leveldb_env::filter::{FilterPolicy, InternalFilterPolicy};
 use leveldb_table::block_cache::BlockCache;
-use leveldb_table::table_reader::{Table, TableCore, TableStep};
+use leveldb_table::table_reader::{Table, TableCore, TableReader, TableStep};
 use std::alloc::Global;
 
 /// Compressors by which a store's tables are opened and read. A type that holds a borrow of such
@@ -186,11 +186,23 @@ fn step_in<E: Env, C: Cmp + Copy + Drop, FP: FilterPolicy>(
         env.new blocks.new core.new }
 {
     if let Some(core) = core {
-        return core.step(table, env, blocks, compressors, to);
+        let mut reader = TableReader {
+            table,
+            env: &mut *env,
+            cache: &mut *blocks,
+            compressors,
+        };
+        return core.step(&mut reader, to);
     }
     let begun = TableCore::new(alloc, table)?;
     let mut fresh = begun.filling(fills);
-    let there = fresh.step(table, env, blocks, compressors, to);
+    let mut reader = TableReader {
+        table,
+        env: &mut *env,
+        cache: &mut *blocks,
+        compressors,
+    };
+    let there = fresh.step(&mut reader, to);
     *core = Some(fresh);
     there
 }

@@ -25,11 +25,11 @@ returns-in-Some g c =
     let tables_are = c.get.follows.holds-at-none ∙ ap (λ k. record tables { pairs = looked_for k tables.pairs }) key in
     let there : table_at old number ≡ Some c.in-Some.table.now = sym found ∙ ap option_copied c.in-Some.is in
     let found_pair = found_with c.find.new.key_buffers c.find.result in
-    record {
-      uses = uses_open keys g.E.Env by refl old state number c.ranges.number.fits c.in-Some.table.now there _ tables_are _ refl c.args.key.now found_pair c.find.new.key_buffers c.find.ensures;
-      gets = λ modelled was. gets_open keys g.E.Env by refl old state number c.ranges.number.fits c.in-Some.table.now there _ tables_are _ refl c.args.key.now found_pair c.find.new.key_buffers c.find.ensures modelled was;
-      in_open = in_open (table_at old number) there c.find.ensures;
-    }
+    rw (c.env-1.given.1 (sym c.find.ensures.same.env)) (record {
+      uses = uses_open keys g.E.Env by refl old state number c.ranges.number.fits c.in-Some.table.now there _ tables_are _ refl c.args.key.now found_pair c.find.new.key_buffers c.find.ensures.looks_up;
+      gets = λ modelled was. gets_open keys g.E.Env by refl old state number c.ranges.number.fits c.in-Some.table.now there _ tables_are _ refl c.args.key.now found_pair c.find.new.key_buffers c.find.ensures.looks_up modelled was;
+      in_open = in_open (table_at old number) there c.find.ensures.looks_up;
+    })
 
 pub returns-in_err-table : goal.returns-in_err-table
 returns-in_err-table g c =
@@ -71,11 +71,11 @@ returns-then-cap-eq0 g c =
     let now = c.open.new.self in
     let found_pair = found_with c.find-then-cap-eq0.new.key_buffers c.find-then-cap-eq0.result in
     let put = put_none (table_key number) table (tables_of now) (sym c.cap.ensures ∙ c.if-cap-eq0.true) in
-    record {
-      uses = uses_looked keys g.E.Env by refl old state number c.ranges.number.fits none table now opens _ refl c.args.key.now found_pair c.find-then-cap-eq0.new.key_buffers table refl c.find-then-cap-eq0.ensures _ put;
-      gets = λ modelled was. gets_looked keys g.E.Env by refl old state number c.ranges.number.fits none table now opens _ refl c.args.key.now found_pair c.find-then-cap-eq0.new.key_buffers table refl c.find-then-cap-eq0.ensures _ put modelled was;
+    rw (c.env-then-cap-eq0-1.given.1 (sym c.find-then-cap-eq0.ensures.same.env)) (record {
+      uses = uses_looked keys g.E.Env by refl old state number c.ranges.number.fits none table now opens _ refl c.args.key.now found_pair c.find-then-cap-eq0.new.key_buffers table refl c.find-then-cap-eq0.ensures.looks_up _ put;
+      gets = λ modelled was. gets_looked keys g.E.Env by refl old state number c.ranges.number.fits none table now opens _ refl c.args.key.now found_pair c.find-then-cap-eq0.new.key_buffers table refl c.find-then-cap-eq0.ensures.looks_up _ put modelled was;
       in_open = λ other at. absurd (none_value none at);
-    }
+    })
 
 pub returns-in_err-insert : goal.returns-in_err-insert
 returns-in_err-insert g c =
@@ -123,8 +123,8 @@ returns g c =
     let cap = c.cap.ensures in
     let some = c.if-cap-eq0.false in
     let it = put_found (table_key number) c.table_key-name.result table (tables_of now) c.insert.new.self key put (omega (arith, cap, some)) c.unwrap-table.result.now (sym (ap option_copied c.unwrap-table.ensures) ∙ c.peek.ensures) in
-    record {
-      uses = uses_looked keys g.E.Env by refl old state number c.ranges.number.fits none table now opens _ refl c.args.key.now found_pair c.find-2.new.key_buffers c.unwrap-table.result.now it c.find-2.ensures _ put;
-      gets = λ modelled was. gets_looked keys g.E.Env by refl old state number c.ranges.number.fits none table now opens _ refl c.args.key.now found_pair c.find-2.new.key_buffers c.unwrap-table.result.now it c.find-2.ensures _ put modelled was;
+    rw (c.env-2-1.given.1 (sym c.find-2.ensures.same.env)) (record {
+      uses = uses_looked keys g.E.Env by refl old state number c.ranges.number.fits none table now opens _ refl c.args.key.now found_pair c.find-2.new.key_buffers c.unwrap-table.result.now it c.find-2.ensures.looks_up _ put;
+      gets = λ modelled was. gets_looked keys g.E.Env by refl old state number c.ranges.number.fits none table now opens _ refl c.args.key.now found_pair c.find-2.new.key_buffers c.unwrap-table.result.now it c.find-2.ensures.looks_up _ put modelled was;
       in_open = λ other at. absurd (none_value none at);
-    }
+    })

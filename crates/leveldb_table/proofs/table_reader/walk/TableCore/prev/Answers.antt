@@ -14,4 +14,4 @@ returns-clause-moves g c =
     moves_enters old (ap pairs_over step.index) (ap (λ z. z.block.cmp) step.index)
     (λ parts position fit is_there. before_first parts (position_over c.step_back.new.self.index) (inner_pairs old.inner) (inner_position old.inner) position (not_none (inner_position old.inner) (sym c.valid.ensures ∙ c.if-not-valid.false))
     (sym step.ok ∙ none) (subst (λ z. IsAtPairOrNone parts z (inner_pairs old.inner) (inner_position old.inner) position) (ap position_over (sym step.index)) is_there.at))
-    (λ bytes out. backward_previous g.C.Cmp ((TheImpl.ghosts g.dyn-1).codings c.args.compressors.now) (g.C.Cmp.cmp c.args.table.now.cmp) bytes old c.step_back.new.self out step.index (not_none (inner_position old.inner) (sym c.valid.ensures ∙ c.if-not-valid.false)) (sym step.ok ∙ none)) c.to_block_before.ensures.enters
+    (λ bytes out. backward_previous g.C.Cmp ((TheImpl.ghosts g.dyn-1).codings c.args.reader.now.compressors.now) (g.C.Cmp.cmp c.args.reader.now.table.now.cmp) bytes old c.step_back.new.self out step.index (not_none (inner_position old.inner) (sym c.valid.ensures ∙ c.if-not-valid.false)) (sym step.ok ∙ none)) c.to_block_before.ensures.enters

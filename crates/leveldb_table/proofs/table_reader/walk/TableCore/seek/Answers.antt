@@ -18,10 +18,11 @@ returns-in_default g c =
     let key = c.args.key.now in
     let none = none_at c.seek.new.self (sym c.current.ensures ∙ ap pair_of c.in_default.is) in
     record {
-      moves = moves_enters {Way = IsKeyPosition (g.C.Cmp.accepts c.args.table.now.cmp) (g.C.Cmp.cmp c.args.table.now.cmp) key} {to = λ pairs _. seek_position (g.C.Cmp.cmp c.args.table.now.cmp) pairs key} {Part_step = ToKey g.C.Cmp key} old refl refl (λ parts position fit is_there. (fit, refl)) (λ bytes out sought. sought)
+      moves = moves_enters {Way = IsKeyPosition (g.C.Cmp.accepts c.args.reader.now.table.now.cmp) (g.C.Cmp.cmp c.args.reader.now.table.now.cmp) key} {to = λ pairs _. seek_position (g.C.Cmp.cmp c.args.reader.now.table.now.cmp) pairs key} {Part_step = ToKey g.C.Cmp key} old refl refl (λ parts position fit is_there. (fit, refl)) (λ bytes out sought. sought)
           (enters_ends old _ tt (block_lines c.seek.new.self old.index block) (ap (λ z. z.cmp) block) (ap inner_position c.leave.ensures)
-          (λ bytes parts position right fit indexed. fit.1 ∙ seek_none (g.met.C.Cmp.preorder c.args.table.now.cmp) right.parted right.accepted key fit.0 (index_line g.C.Cmp parts old.index key _ indexed.lines indexed.ordered ok ∙ none))
-          (λ bytes. seeks_none ((TheImpl.ghosts g.dyn-1).codings c.args.compressors.now) (g.C.Cmp.cmp c.args.table.now.cmp) bytes (pairs_over old.index) key (line_for g.C.Cmp key old) _ (sym ok ∙ none) ok (ap inner_position c.leave.ensures)));
+          (λ bytes parts position right fit indexed. fit.1 ∙ seek_none (g.met.C.Cmp.preorder c.args.reader.now.table.now.cmp) right.parted right.accepted key fit.0 (index_line g.C.Cmp parts old.index key _ indexed.lines indexed.ordered ok ∙ none))
+          (λ bytes. seeks_none ((TheImpl.ghosts g.dyn-1).codings c.args.reader.now.compressors.now) (g.C.Cmp.cmp c.args.reader.now.table.now.cmp) bytes (pairs_over old.index) key (line_for g.C.Cmp key old) _ (sym ok ∙ none) ok (ap inner_position c.leave.ensures)));
+      same = record { table = refl; compressors = refl; env = refl; cache = refl };
     }
 
 pub returns-in_err-handle : goal.returns-in_err-handle
@@ -33,16 +34,17 @@ returns-in_err-handle g c =
     let lines = block_lines c.seek.new.self old.index block in
     let line : pair_at (pairs_over c.seek.new.self) (position_over c.seek.new.self) ≡ Some (c.in-Some.field-0-0.now, c.in-Some.value.now) = sym c.current.ensures ∙ ap pair_of c.in-Some.is in
     record {
-      moves = moves_enters {Way = IsKeyPosition (g.C.Cmp.accepts c.args.table.now.cmp) (g.C.Cmp.cmp c.args.table.now.cmp) key} {to = λ pairs _. seek_position (g.C.Cmp.cmp c.args.table.now.cmp) pairs key} {Part_step = ToKey g.C.Cmp key} old refl refl (λ parts position fit is_there. (fit, refl)) (λ bytes out sought. sought)
+      moves = moves_enters {Way = IsKeyPosition (g.C.Cmp.accepts c.args.reader.now.table.now.cmp) (g.C.Cmp.cmp c.args.reader.now.table.now.cmp) key} {to = λ pairs _. seek_position (g.C.Cmp.cmp c.args.reader.now.table.now.cmp) pairs key} {Part_step = ToKey g.C.Cmp key} old refl refl (λ parts position fit is_there. (fit, refl)) (λ bytes out sought. sought)
           (enters_own old _ c.from_residual-in_err-handle.result lines (ap (λ z. z.cmp) block) (ap inner_position c.leave.ensures) c.from_residual-in_err-handle.ensures.1 (λ status is.
           let code = ap (λ z. z.code) is ∙ c.in_err-handle.ensures.err.0 in
           inr (
             code,
             λ bytes. (
               λ parts position right fit indexed. line_lacks {status = status} c.seek.new.self right (lines ∙ indexed.lines) (unnamed (names_none line c.in_err-handle.ensures.err.1) code),
-              seeks_lacking ((TheImpl.ghosts g.dyn-1).codings c.args.compressors.now) (g.C.Cmp.cmp c.args.table.now.cmp) bytes (pairs_over old.index) key (line_for g.C.Cmp key old) (unnamed (names_none (line_by lines ok line) c.in_err-handle.ensures.err.1) code),
+              seeks_lacking ((TheImpl.ghosts g.dyn-1).codings c.args.reader.now.compressors.now) (g.C.Cmp.cmp c.args.reader.now.table.now.cmp) bytes (pairs_over old.index) key (line_for g.C.Cmp key old) (unnamed (names_none (line_by lines ok line) c.in_err-handle.ensures.err.1) code),
             ),
           )));
+      same = record { table = refl; compressors = refl; env = refl; cache = refl };
     }
 
 pub returns : goal.returns
@@ -50,6 +52,7 @@ returns g c =
     let block = c.in_ok-seek.ensures.block ∙ ap (λ z. z.index.block) c.self.view_is in
     let old = c.args.self.now in
     record {
-      moves = moves_enters {Way = IsKeyPosition (g.C.Cmp.accepts c.args.table.now.cmp) (g.C.Cmp.cmp c.args.table.now.cmp) c.args.key.now} {to = λ pairs _. seek_position (g.C.Cmp.cmp c.args.table.now.cmp) pairs c.args.key.now} old (block_lines c.seek.new.self old.index block) (ap (λ z. z.cmp) block)
-          (λ parts position fit is_there. (fit, refl)) (λ bytes out. sought_along g.C.Cmp ((TheImpl.ghosts g.dyn-1).codings c.args.compressors.now) (g.C.Cmp.cmp c.args.table.now.cmp) bytes c.args.key.now old (record old { index = c.seek.new.self; inner = c.leave.new.inner }) out (block_lines c.seek.new.self old.index block) (ap (λ z. z.cmp) block)) c.enter.ensures.enters;
+      moves = moves_enters {Way = IsKeyPosition (g.C.Cmp.accepts c.args.reader.now.table.now.cmp) (g.C.Cmp.cmp c.args.reader.now.table.now.cmp) c.args.key.now} {to = λ pairs _. seek_position (g.C.Cmp.cmp c.args.reader.now.table.now.cmp) pairs c.args.key.now} old (block_lines c.seek.new.self old.index block) (ap (λ z. z.cmp) block)
+          (λ parts position fit is_there. (fit, refl)) (λ bytes out. sought_along g.C.Cmp ((TheImpl.ghosts g.dyn-1).codings c.args.reader.now.compressors.now) (g.C.Cmp.cmp c.args.reader.now.table.now.cmp) bytes c.args.key.now old (record old { index = c.seek.new.self; inner = c.leave.new.inner }) out (block_lines c.seek.new.self old.index block) (ap (λ z. z.cmp) block)) c.enter.ensures.enters;
+      same = c.enter.ensures.same;
     }

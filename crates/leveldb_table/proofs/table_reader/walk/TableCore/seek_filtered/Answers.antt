@@ -21,8 +21,8 @@ returns-in_default-clause-enters g c =
     let key = c.args.key.now in
     let none = none_at c.seek.new.self (sym c.current.ensures ∙ ap pair_of c.in_default.is) in
     enters_ends old _ false (block_lines c.seek.new.self old.index block) (ap (λ z. z.cmp) block) (ap inner_position c.leave.ensures)
-    (λ bytes parts position right fit indexed. fit.1 ∙ let_none (g.C.Cmp.cmp c.args.table.now.cmp) (may_contain g.FP.FilterPolicy.matches c.args.table.now) key parts (index_line g.C.Cmp parts old.index key _ indexed.lines indexed.ordered ok ∙ none))
-    (λ bytes. looks_none ((TheImpl.ghosts g.dyn-1).codings c.args.compressors.now) (g.C.Cmp.cmp c.args.table.now.cmp) bytes (pairs_over old.index) (may_contain g.FP.FilterPolicy.matches c.args.table.now) key (line_for g.C.Cmp key old) _ (sym ok ∙ none) ok (ap inner_position c.leave.ensures))
+    (λ bytes parts position right fit indexed. fit.1 ∙ let_none (g.C.Cmp.cmp c.args.reader.now.table.now.cmp) (may_contain g.FP.FilterPolicy.matches c.args.reader.now.table.now) key parts (index_line g.C.Cmp parts old.index key _ indexed.lines indexed.ordered ok ∙ none))
+    (λ bytes. looks_none ((TheImpl.ghosts g.dyn-1).codings c.args.reader.now.compressors.now) (g.C.Cmp.cmp c.args.reader.now.table.now.cmp) bytes (pairs_over old.index) (may_contain g.FP.FilterPolicy.matches c.args.reader.now.table.now) key (line_for g.C.Cmp key old) _ (sym ok ∙ none) ok (ap inner_position c.leave.ensures))
 
 pub returns-in_err-handle-clause-enters : goal.returns-in_err-handle-clause-enters
 returns-in_err-handle-clause-enters g c =
@@ -38,7 +38,7 @@ returns-in_err-handle-clause-enters g c =
       code,
       λ bytes. (
         λ parts position right fit indexed. line_lacks {status = status} c.seek.new.self right (lines ∙ indexed.lines) (unnamed (names_none line c.in_err-handle.ensures.err.1) code),
-        looks_unnamed ((TheImpl.ghosts g.dyn-1).codings c.args.compressors.now) (g.C.Cmp.cmp c.args.table.now.cmp) bytes (pairs_over old.index) (may_contain g.FP.FilterPolicy.matches c.args.table.now) key (line_for g.C.Cmp key old) status (names_none (line_by lines ok line) c.in_err-handle.ensures.err.1) code,
+        looks_unnamed ((TheImpl.ghosts g.dyn-1).codings c.args.reader.now.compressors.now) (g.C.Cmp.cmp c.args.reader.now.table.now.cmp) bytes (pairs_over old.index) (may_contain g.FP.FilterPolicy.matches c.args.reader.now.table.now) key (line_for g.C.Cmp key old) status (names_none (line_by lines ok line) c.in_err-handle.ensures.err.1) code,
       ),
     ))
 
@@ -49,11 +49,11 @@ returns-then-not-may_contain-clause-enters g c =
     let old = c.args.self.now in
     let key = c.args.key.now in
     let lines = block_lines c.seek.new.self old.index block in
-    let refuses = ap (λ n. may_contain g.FP.FilterPolicy.matches c.args.table.now n key) (sym c.offset.ensures) ∙ sym c.may_contain.ensures ∙ c.if-not-may_contain.true in
+    let refuses = ap (λ n. may_contain g.FP.FilterPolicy.matches c.args.reader.now.table.now n key) (sym c.offset.ensures) ∙ sym c.may_contain.ensures ∙ c.if-not-may_contain.true in
     enters_ends old _ false lines (ap (λ z. z.cmp) block) (ap inner_position c.leave.ensures)
-    (λ bytes parts position right fit indexed. fit.1 ∙ let_by c.seek.new.self key c.in-Some.field-0-0.now c.in-Some.value.now c.in_ok-handle.handle (may_contain g.FP.FilterPolicy.matches c.args.table.now) false right (lines ∙ indexed.lines)
+    (λ bytes parts position right fit indexed. fit.1 ∙ let_by c.seek.new.self key c.in-Some.field-0-0.now c.in-Some.value.now c.in_ok-handle.handle (may_contain g.FP.FilterPolicy.matches c.args.reader.now.table.now) false right (lines ∙ indexed.lines)
     (index_line g.C.Cmp parts old.index key (position_over c.seek.new.self) indexed.lines indexed.ordered ok) (sym c.current.ensures ∙ ap pair_of c.in-Some.is) c.in_ok-handle.ensures.ok.1 refuses)
-    (λ bytes. looks_refused ((TheImpl.ghosts g.dyn-1).codings c.args.compressors.now) (g.C.Cmp.cmp c.args.table.now.cmp) bytes (pairs_over old.index) (may_contain g.FP.FilterPolicy.matches c.args.table.now) key (line_for g.C.Cmp key old) _ c.in_ok-handle.handle c.in_ok-handle.ensures.ok.0 (names_one c.in_ok-handle.handle (line_by lines ok (sym c.current.ensures ∙ ap pair_of c.in-Some.is)) c.in_ok-handle.ensures.ok.1) refuses (ap inner_position c.leave.ensures))
+    (λ bytes. looks_refused ((TheImpl.ghosts g.dyn-1).codings c.args.reader.now.compressors.now) (g.C.Cmp.cmp c.args.reader.now.table.now.cmp) bytes (pairs_over old.index) (may_contain g.FP.FilterPolicy.matches c.args.reader.now.table.now) key (line_for g.C.Cmp key old) _ c.in_ok-handle.handle c.in_ok-handle.ensures.ok.0 (names_one c.in_ok-handle.handle (line_by lines ok (sym c.current.ensures ∙ ap pair_of c.in-Some.is)) c.in_ok-handle.ensures.ok.1) refuses (ap inner_position c.leave.ensures))
 
 pub returns-in_err-enter-clause-enters : goal.returns-in_err-enter-clause-enters
 returns-in_err-enter-clause-enters g c =
@@ -62,15 +62,15 @@ returns-in_err-enter-clause-enters g c =
     let old = c.args.self.now in
     let key = c.args.key.now in
     let lines = block_lines c.seek.new.self old.index block in
-    let passes = ap (λ n. may_contain g.FP.FilterPolicy.matches c.args.table.now n key) (sym c.offset.ensures) ∙ sym c.may_contain.ensures ∙ c.if-not-may_contain.false in
+    let passes = ap (λ n. may_contain g.FP.FilterPolicy.matches c.args.reader.now.table.now n key) (sym c.offset.ensures) ∙ sym c.may_contain.ensures ∙ c.if-not-may_contain.false in
     enters_refused c.from_residual-in_err-enter.result c.from_residual-in_err-enter.ensures.1
-    (enters_then {Way = IsKeyPosition (g.C.Cmp.accepts c.args.table.now.cmp) (g.C.Cmp.cmp c.args.table.now.cmp) key} old (KeepsDisk-refl g.E.Env c.args.env.now) refl (GainsBlocks-refl c.args.table.now.id _ c.args.cache.now) lines (ap (λ z. z.cmp) block)
+    (enters_then {Way = IsKeyPosition (g.C.Cmp.accepts c.args.reader.now.table.now.cmp) (g.C.Cmp.cmp c.args.reader.now.table.now.cmp) key} old (KeepsDisk-refl g.E.Env c.args.reader.now.env.now) refl (GainsBlocks-refl c.args.reader.now.table.now.id _ c.args.reader.now.cache.now) lines (ap (λ z. z.cmp) block)
     (λ bytes has parts position right fit holds indexed. (
       fit.0,
-      fit.1 ∙ let_by c.seek.new.self key c.in-Some.field-0-0.now c.in-Some.value.now c.in_ok-handle.handle (may_contain g.FP.FilterPolicy.matches c.args.table.now) true right (lines ∙ indexed.lines)
+      fit.1 ∙ let_by c.seek.new.self key c.in-Some.field-0-0.now c.in-Some.value.now c.in_ok-handle.handle (may_contain g.FP.FilterPolicy.matches c.args.reader.now.table.now) true right (lines ∙ indexed.lines)
           (index_line g.C.Cmp parts old.index key (position_over c.seek.new.self) indexed.lines indexed.ordered ok) (sym c.current.ensures ∙ ap pair_of c.in-Some.is) c.in_ok-handle.ensures.ok.1 passes,
     ))
-    (λ bytes has holds out. looked_up g.C.Cmp ((TheImpl.ghosts g.dyn-1).codings c.args.compressors.now) (g.C.Cmp.cmp c.args.table.now.cmp) bytes (may_contain g.FP.FilterPolicy.matches c.args.table.now) key c.in_ok-handle.handle old (record old { index = c.seek.new.self; inner = c.leave.new.inner }) out lines (ap (λ z. z.cmp) block) c.in_ok-handle.ensures.ok.0 (names_one c.in_ok-handle.handle (line_by lines ok (sym c.current.ensures ∙ ap pair_of c.in-Some.is)) c.in_ok-handle.ensures.ok.1) passes) c.in_err-enter.ensures.enters)
+    (λ bytes has holds out. looked_up g.C.Cmp ((TheImpl.ghosts g.dyn-1).codings c.args.reader.now.compressors.now) (g.C.Cmp.cmp c.args.reader.now.table.now.cmp) bytes (may_contain g.FP.FilterPolicy.matches c.args.reader.now.table.now) key c.in_ok-handle.handle old (record old { index = c.seek.new.self; inner = c.leave.new.inner }) out lines (ap (λ z. z.cmp) block) c.in_ok-handle.ensures.ok.0 (names_one c.in_ok-handle.handle (line_by lines ok (sym c.current.ensures ∙ ap pair_of c.in-Some.is)) c.in_ok-handle.ensures.ok.1) passes) c.in_err-enter.ensures.enters)
 
 pub returns-clause-enters : goal.returns-clause-enters
 returns-clause-enters g c =
@@ -79,12 +79,12 @@ returns-clause-enters g c =
     let old = c.args.self.now in
     let key = c.args.key.now in
     let lines = block_lines c.seek.new.self old.index block in
-    let passes = ap (λ n. may_contain g.FP.FilterPolicy.matches c.args.table.now n key) (sym c.offset.ensures) ∙ sym c.may_contain.ensures ∙ c.if-not-may_contain.false in
+    let passes = ap (λ n. may_contain g.FP.FilterPolicy.matches c.args.reader.now.table.now n key) (sym c.offset.ensures) ∙ sym c.may_contain.ensures ∙ c.if-not-may_contain.false in
     enters_ok c.valid.result
-    (enters_then {Way = IsKeyPosition (g.C.Cmp.accepts c.args.table.now.cmp) (g.C.Cmp.cmp c.args.table.now.cmp) key} old (KeepsDisk-refl g.E.Env c.args.env.now) refl (GainsBlocks-refl c.args.table.now.id _ c.args.cache.now) lines (ap (λ z. z.cmp) block)
+    (enters_then {Way = IsKeyPosition (g.C.Cmp.accepts c.args.reader.now.table.now.cmp) (g.C.Cmp.cmp c.args.reader.now.table.now.cmp) key} old (KeepsDisk-refl g.E.Env c.args.reader.now.env.now) refl (GainsBlocks-refl c.args.reader.now.table.now.id _ c.args.reader.now.cache.now) lines (ap (λ z. z.cmp) block)
     (λ bytes has parts position right fit holds indexed. (
       fit.0,
-      fit.1 ∙ let_by c.seek.new.self key c.in-Some.field-0-0.now c.in-Some.value.now c.in_ok-handle.handle (may_contain g.FP.FilterPolicy.matches c.args.table.now) true right (lines ∙ indexed.lines)
+      fit.1 ∙ let_by c.seek.new.self key c.in-Some.field-0-0.now c.in-Some.value.now c.in_ok-handle.handle (may_contain g.FP.FilterPolicy.matches c.args.reader.now.table.now) true right (lines ∙ indexed.lines)
           (index_line g.C.Cmp parts old.index key (position_over c.seek.new.self) indexed.lines indexed.ordered ok) (sym c.current.ensures ∙ ap pair_of c.in-Some.is) c.in_ok-handle.ensures.ok.1 passes,
     ))
-    (λ bytes has holds out. looked_up g.C.Cmp ((TheImpl.ghosts g.dyn-1).codings c.args.compressors.now) (g.C.Cmp.cmp c.args.table.now.cmp) bytes (may_contain g.FP.FilterPolicy.matches c.args.table.now) key c.in_ok-handle.handle old (record old { index = c.seek.new.self; inner = c.leave.new.inner }) out lines (ap (λ z. z.cmp) block) c.in_ok-handle.ensures.ok.0 (names_one c.in_ok-handle.handle (line_by lines ok (sym c.current.ensures ∙ ap pair_of c.in-Some.is)) c.in_ok-handle.ensures.ok.1) passes) c.in_ok-enter.ensures.enters)
+    (λ bytes has holds out. looked_up g.C.Cmp ((TheImpl.ghosts g.dyn-1).codings c.args.reader.now.compressors.now) (g.C.Cmp.cmp c.args.reader.now.table.now.cmp) bytes (may_contain g.FP.FilterPolicy.matches c.args.reader.now.table.now) key c.in_ok-handle.handle old (record old { index = c.seek.new.self; inner = c.leave.new.inner }) out lines (ap (λ z. z.cmp) block) c.in_ok-handle.ensures.ok.0 (names_one c.in_ok-handle.handle (line_by lines ok (sym c.current.ensures ∙ ap pair_of c.in-Some.is)) c.in_ok-handle.ensures.ok.1) passes) c.in_ok-enter.ensures.enters)

@@ -14,8 +14,8 @@ pub returns-in_err-load_line-clause-enters : goal.returns-in_err-load_line-claus
 returns-in_err-load_line-clause-enters g c =
     let block = c.in_ok-prev.ensures.block ∙ ap (λ z. z.index.block) c.self.view_is in
     let ok = c.in_ok-prev.ensures.ok ∙ ap (λ z. previous_position (position_over z.index)) c.self.view_is in
-    let codings = (TheImpl.ghosts g.dyn-1).codings c.args.compressors.now in
-    let cmp = g.C.Cmp.cmp c.args.table.now.cmp in
+    let codings = (TheImpl.ghosts g.dyn-1).codings c.args.reader.now.compressors.now in
+    let cmp = g.C.Cmp.cmp c.args.reader.now.table.now.cmp in
     let none : inner_position c.load_line.new.self.inner ≡ None = ap inner_position (c.in_err-load_line.ensures.err ∙ c.leave.ensures) in
     let index = c.prev.new.self in
     let lines = block_lines index c.args.self.now.index block in
@@ -41,8 +41,8 @@ pub returns-then-not-branch-2-clause-enters : goal.returns-then-not-branch-2-cla
 returns-then-not-branch-2-clause-enters g c =
     let block = c.in_ok-prev.ensures.block ∙ ap (λ z. z.index.block) c.self.view_is in
     let ok = c.in_ok-prev.ensures.ok ∙ ap (λ z. previous_position (position_over z.index)) c.self.view_is in
-    let codings = (TheImpl.ghosts g.dyn-1).codings c.args.compressors.now in
-    let cmp = g.C.Cmp.cmp c.args.table.now.cmp in
+    let codings = (TheImpl.ghosts g.dyn-1).codings c.args.reader.now.compressors.now in
+    let cmp = g.C.Cmp.cmp c.args.reader.now.table.now.cmp in
     let old = c.args.self.now in
     let loaded = c.load_line.new.self in
     let new = c.to_last.new.self in
@@ -50,7 +50,7 @@ returns-then-not-branch-2-clause-enters g c =
     let step = c.in_ok-to_last.ensures in
     let there = sym c.in_ok-prev.ensures.there ∙ c.if-not-branch.false in
     let index : new.index ≡ c.prev.new.self = step.index ∙ read.index in
-    let into : (bytes : List ℕ) → FileHas g.E.Env c.args.env.now c.args.table.now.file bytes → HoldsOnlyOf g.C.Cmp codings cmp c.args.table.now.id bytes c.args.cache.now
+    let into : (bytes : List ℕ) → FileHas g.E.Env c.args.reader.now.env.now c.args.reader.now.table.now.file bytes → HoldsOnlyOf g.C.Cmp codings cmp c.args.reader.now.table.now.id bytes c.args.reader.now.cache.now
     → IsInto g.C.Cmp codings cmp bytes (previous_position (position_over old.index)) last_position old new = λ bytes has holds.
     is_into g.C.Cmp codings cmp bytes (previous_position (position_over old.index)) last_position old loaded new c.prev.new.self block ok there
     read.index (read.block bytes has holds) step.index step.block step.pairs step.ok in
@@ -76,8 +76,8 @@ pub returns-clause-enters : goal.returns-clause-enters
 returns-clause-enters g c =
     let block = c.in_ok-prev.ensures.block ∙ ap (λ z. z.index.block) c.self.view_is in
     let ok = c.in_ok-prev.ensures.ok ∙ ap (λ z. previous_position (position_over z.index)) c.self.view_is in
-    let codings = (TheImpl.ghosts g.dyn-1).codings c.args.compressors.now in
-    let cmp = g.C.Cmp.cmp c.args.table.now.cmp in
+    let codings = (TheImpl.ghosts g.dyn-1).codings c.args.reader.now.compressors.now in
+    let cmp = g.C.Cmp.cmp c.args.reader.now.table.now.cmp in
     let old = c.args.self.now in
     let loaded = c.load_line.new.self in
     let new = c.to_last.new.self in
@@ -85,7 +85,7 @@ returns-clause-enters g c =
     let step = c.in_ok-to_last.ensures in
     let there = sym c.in_ok-prev.ensures.there ∙ c.if-not-branch.false in
     let index : new.index ≡ c.prev.new.self = step.index ∙ read.index in
-    let into : (bytes : List ℕ) → FileHas g.E.Env c.args.env.now c.args.table.now.file bytes → HoldsOnlyOf g.C.Cmp codings cmp c.args.table.now.id bytes c.args.cache.now
+    let into : (bytes : List ℕ) → FileHas g.E.Env c.args.reader.now.env.now c.args.reader.now.table.now.file bytes → HoldsOnlyOf g.C.Cmp codings cmp c.args.reader.now.table.now.id bytes c.args.reader.now.cache.now
     → IsInto g.C.Cmp codings cmp bytes (previous_position (position_over old.index)) last_position old new = λ bytes has holds.
     is_into g.C.Cmp codings cmp bytes (previous_position (position_over old.index)) last_position old loaded new c.prev.new.self block ok there
     read.index (read.block bytes has holds) step.index step.block step.pairs step.ok in

@@ -1,4 +1,4 @@
-use Rattle.std.proofs.Common.{◌≡◌, List, ℕ, None, sym, ◌∙◌, ap, subst, inl, inr, false}
+use Rattle.std.proofs.Common.{◌≡◌, List, ℕ, None, sym, ◌∙◌, ap, refl, subst, inl, inr, false}
 use Rattle.leveldb_env.specs.contracts.compressor.CompressorListCompressors.TheImpl
 use Rattle.leveldb_base.specs.Types.{last_position}
 use Rattle.leveldb_table.specs.BlockCache.{HoldsOnlyOf}
@@ -15,8 +15,8 @@ pub returns-in_err-load_line : goal.returns-in_err-load_line
 returns-in_err-load_line g c =
     let block = c.in_ok-seek_to_last.ensures.block ∙ ap (λ z. z.index.block) c.self.view_is in
     let ok = c.in_ok-seek_to_last.ensures.ok ∙ ap (λ z. last_position (pairs_over z.index)) c.self.view_is in
-    let codings = (TheImpl.ghosts g.dyn-1).codings c.args.compressors.now in
-    let cmp = g.C.Cmp.cmp c.args.table.now.cmp in
+    let codings = (TheImpl.ghosts g.dyn-1).codings c.args.reader.now.compressors.now in
+    let cmp = g.C.Cmp.cmp c.args.reader.now.table.now.cmp in
     let none : inner_position c.load_line.new.self.inner ≡ None = ap inner_position (c.in_err-load_line.ensures.err ∙ c.leave.ensures) in
     let index = c.seek_to_last.new.self in
     let lines = block_lines index c.args.self.now.index block in
@@ -38,14 +38,15 @@ returns-in_err-load_line g c =
         same_lines = ap pairs_over c.in_err-load_line.ensures.index ∙ lines;
         same_order = ap (λ z. z.block.cmp) c.in_err-load_line.ensures.index ∙ ap (λ z. z.cmp) block;
       };
+      same = c.in_err-load_line.ensures.same;
     }
 
 pub returns : goal.returns
 returns g c =
     let block = c.in_ok-seek_to_last.ensures.block ∙ ap (λ z. z.index.block) c.self.view_is in
     let ok = c.in_ok-seek_to_last.ensures.ok ∙ ap (λ z. last_position (pairs_over z.index)) c.self.view_is in
-    let codings = (TheImpl.ghosts g.dyn-1).codings c.args.compressors.now in
-    let cmp = g.C.Cmp.cmp c.args.table.now.cmp in
+    let codings = (TheImpl.ghosts g.dyn-1).codings c.args.reader.now.compressors.now in
+    let cmp = g.C.Cmp.cmp c.args.reader.now.table.now.cmp in
     let old = c.args.self.now in
     let loaded = c.load_line.new.self in
     let new = c.to_last.new.self in
@@ -53,7 +54,7 @@ returns g c =
     let step = c.in_ok-to_last.ensures in
     let there = sym c.valid.ensures ∙ c.if-not-valid.false in
     let index : new.index ≡ c.seek_to_last.new.self = step.index ∙ read.index in
-    let into : (bytes : List ℕ) → FileHas g.E.Env c.args.env.now c.args.table.now.file bytes → HoldsOnlyOf g.C.Cmp codings cmp c.args.table.now.id bytes c.args.cache.now
+    let into : (bytes : List ℕ) → FileHas g.E.Env c.args.reader.now.env.now c.args.reader.now.table.now.file bytes → HoldsOnlyOf g.C.Cmp codings cmp c.args.reader.now.table.now.id bytes c.args.reader.now.cache.now
     → IsInto g.C.Cmp codings cmp bytes (last_position (pairs_over old.index)) last_position old new = λ bytes has holds.
     is_into g.C.Cmp codings cmp bytes (last_position (pairs_over old.index)) last_position old loaded new c.seek_to_last.new.self block ok there
     read.index (read.block bytes has holds) step.index step.block step.pairs step.ok in
@@ -75,14 +76,15 @@ returns g c =
         same_lines = ap pairs_over index ∙ block_lines c.seek_to_last.new.self c.args.self.now.index block;
         same_order = ap (λ z. z.block.cmp) index ∙ ap (λ z. z.cmp) block;
       };
+      same = c.in_ok-load_line.ensures.same;
     }
 
 pub returns-then-branch : goal.returns-then-branch
 returns-then-branch g c =
     let block = c.in_ok-seek_to_last.ensures.block ∙ ap (λ z. z.index.block) c.self.view_is in
     let ok = c.in_ok-seek_to_last.ensures.ok ∙ ap (λ z. last_position (pairs_over z.index)) c.self.view_is in
-    let codings = (TheImpl.ghosts g.dyn-1).codings c.args.compressors.now in
-    let cmp = g.C.Cmp.cmp c.args.table.now.cmp in
+    let codings = (TheImpl.ghosts g.dyn-1).codings c.args.reader.now.compressors.now in
+    let cmp = g.C.Cmp.cmp c.args.reader.now.table.now.cmp in
     let old = c.args.self.now in
     let loaded = c.load_line.new.self in
     let new = c.to_last.new.self in
@@ -90,7 +92,7 @@ returns-then-branch g c =
     let step = c.in_ok-to_last.ensures in
     let there = sym c.valid.ensures ∙ c.if-not-valid.false in
     let index : new.index ≡ c.seek_to_last.new.self = step.index ∙ read.index in
-    let into : (bytes : List ℕ) → FileHas g.E.Env c.args.env.now c.args.table.now.file bytes → HoldsOnlyOf g.C.Cmp codings cmp c.args.table.now.id bytes c.args.cache.now
+    let into : (bytes : List ℕ) → FileHas g.E.Env c.args.reader.now.env.now c.args.reader.now.table.now.file bytes → HoldsOnlyOf g.C.Cmp codings cmp c.args.reader.now.table.now.id bytes c.args.reader.now.cache.now
     → IsInto g.C.Cmp codings cmp bytes (last_position (pairs_over old.index)) last_position old new = λ bytes has holds.
     is_into g.C.Cmp codings cmp bytes (last_position (pairs_over old.index)) last_position old loaded new c.seek_to_last.new.self block ok there
     read.index (read.block bytes has holds) step.index step.block step.pairs step.ok in
@@ -104,6 +106,7 @@ returns-then-branch g c =
         same_lines = ap pairs_over index ∙ block_lines c.seek_to_last.new.self c.args.self.now.index block;
         same_order = ap (λ z. z.block.cmp) index ∙ ap (λ z. z.cmp) block;
       };
+      same = c.in_ok-load_line.ensures.same;
     }
 
 pub returns-then-not-valid : goal.returns-then-not-valid
@@ -115,5 +118,6 @@ returns-then-not-valid g c =
     record {
       enters = enters_ends {Fit = λ parts position. position ≡ last_position (pairs_in parts)} old _ false (block_lines c.seek_to_last.new.self old.index block) (ap (λ z. z.cmp) block) (ap inner_position c.leave.ensures)
           (λ bytes parts position right fit indexed. fit ∙ last_of_none parts (ap last_position (sym indexed.lines) ∙ sym ok ∙ none))
-          (λ bytes. to_no_block ((TheImpl.ghosts g.dyn-1).codings c.args.compressors.now) (g.C.Cmp.cmp c.args.table.now.cmp) bytes (pairs_over old.index) last_position (last_position (pairs_over old.index)) _ (sym ok ∙ none) none (ap inner_position c.leave.ensures));
+          (λ bytes. to_no_block ((TheImpl.ghosts g.dyn-1).codings c.args.reader.now.compressors.now) (g.C.Cmp.cmp c.args.reader.now.table.now.cmp) bytes (pairs_over old.index) last_position (last_position (pairs_over old.index)) _ (sym ok ∙ none) none (ap inner_position c.leave.ensures));
+      same = record { table = refl; compressors = refl; env = refl; cache = refl };
     }
