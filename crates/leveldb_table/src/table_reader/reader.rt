@@ -50,9 +50,9 @@ impl<E: Env, C: Cmp + Copy + Drop, FP: FilterPolicy> TableReader<'_, E, C, FP> {
         Ok(Some((Bytes::from_vec(key_buffers.into_key())?, value)))
     }
 
-    /// `get`, but it returns the value alone, and the finder has the pair's key. Where the finder
-    /// has room for the keys and the cache has the block, it takes no memory. Where it finds
-    /// nothing, the finder's key is of no use; an error may leave the finder without room.
+    /// `get`, but it returns the value alone, and the buffers have the pair's key. Where they have
+    /// room for the keys and the cache has the block, it takes no memory. Where it finds nothing,
+    /// their key is of no use; an error may leave them without room.
     pub fn find(
         &mut self,
         alloc: Global,
