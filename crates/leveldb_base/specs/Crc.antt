@@ -24,8 +24,8 @@ crc_register register text = fold crc_byte register text
 unfoldable pub crc_zeros : ℕ → ℕ → ℕ
 crc_zeros bytes register = crc_shifts (8 * bytes) register
 
--- What four registers side by side stand for that took the words of blocks in turn: so many bytes
--- follow each of them.
+-- The register that four side by side stand for, each of which took one word of every block of
+-- sixteen bytes: so many zero bytes follow each.
 abbrev pub lanes_register : ℕ → ℕ → ℕ → ℕ → ℕ
 lanes_register first second third fourth =
     bit_xor (bit_xor (crc_zeros 16 first) (crc_zeros 12 second))

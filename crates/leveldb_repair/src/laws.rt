@@ -19,7 +19,7 @@ pub fn repairs_find_the_same()
 
 /// At each moment of a repair with these options, and after one that failed, the same entries are
 /// found as of the files before it, if no table is readable of which only a part is there. So they
-/// are of what a crash leaves, if it makes up no table.
+/// are of what a crash leaves, where all bytes of these files were kept, if it makes up no table.
 pub fn repairs_lose_nothing_on_the_way<C: UserCmp + Copy, FP: FilterPolicy + Copy>(
     options: &Options<C, FP>,
 )

@@ -74,8 +74,8 @@ pub fn another_repair_finds_the_same<E: Env, C: UserCmp + Copy, FP: FilterPolicy
 {}
 
 /// So does another repair after one with these options that failed, and after a crash that came
-/// since one began: the same entries are found as before it, if no table is readable of which only
-/// a part is there, and the crash made up none.
+/// since one began, where all bytes of the files before it were kept: the same entries are found as
+/// before it, if no table is readable of which only a part is there, and the crash made up none.
 pub fn repairs_lose_nothing<E: Env, C: UserCmp + Copy, FP: FilterPolicy + Copy>(
     options: &Options<C, FP>,
 )

@@ -39,8 +39,9 @@ use std::alloc::Global;
 /// Where the lock is held, or what was looked at isn't repaired for a cause of this table, no file
 /// has changed, but that the lock's may be made; after numbers or a compressor that fail while
 /// tables are written, some of these may be there. After any other error, and wherever a crash
-/// came, the files hold what they held, or what was found. Another repair finds the same, after an
-/// Ok, an error or a crash, where no table is readable that was cut as it was written.
+/// came, the files hold what they held, or what was found. Another repair finds the same after an
+/// Ok; so it does after an error, where no table is readable of which only a part was written, and
+/// after a crash, if that made up no table either, and all bytes of the files had been synced.
 pub fn repair<E: Env, C: UserCmp + Copy, FP: FilterPolicy + Copy>(
     alloc: Global,
     name: &str,
