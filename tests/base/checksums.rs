@@ -1,5 +1,5 @@
-//! Checksums of catalogues, masked ones, and those of texts in pieces beside a slow one, bit by
-//! bit.
+//! Checksums of catalogues, masked ones, and those of texts in pieces and of long ones beside a
+//! slow one, bit by bit.
 use leveldb_base::crc::{crc32, digest, mask_crc, unmask_crc};
 
 // Bit by bit.
@@ -27,6 +27,17 @@ fn sample() -> [u8; 100] {
     let mut text = [0; 100];
     for i in 0..100u8 {
         text[i as usize] = i ^ (i << 3);
+    }
+    text
+}
+
+// Bytes in no order.
+fn long_sample() -> [u8; 10000] {
+    let mut text = [0; 10000];
+    let mut state = 1u32;
+    for byte in &mut text {
+        state = state.wrapping_mul(1_664_525).wrapping_add(1_013_904_223);
+        *byte = (state >> 24) as u8;
     }
     text
 }
@@ -67,5 +78,30 @@ fn every_length_agrees_with_the_bits(rt: HostRuntime) {
     for length in 0..41 {
         let cut = &text[..length];
         assert!(rt; crc32(cut) == slow_crc32(cut), "length {length}");
+    }
+}
+
+// A text of 1280 bytes or more is divided first, 4608 of them at a time.
+#[test]
+fn every_long_text_agrees_with_the_bits(rt: HostRuntime) {
+    let text = long_sample();
+    let mut register = 0xffff_ffff;
+    for length in 0..10000 {
+        let cut = &text[..length];
+        assert!(rt; crc32(cut) == register ^ 0xffff_ffff, "length {length}");
+        register = shifted(register ^ u32::from(text[length]));
+    }
+}
+
+#[test]
+fn a_long_text_in_two_pieces_gives_the_sum_of_the_whole(rt: HostRuntime) {
+    let text = long_sample();
+    let whole = slow_crc32(&text);
+    for step in 0..200 {
+        let cut = 50 * step + step % 17;
+        let mut digest = digest();
+        digest.update(&text[..cut]);
+        digest.update(&text[cut..]);
+        assert!(rt; digest.finalize() == whole, "cut at {cut}");
     }
 }

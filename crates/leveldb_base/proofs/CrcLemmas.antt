@@ -65,7 +65,7 @@ crc_shifts-add zero n register = ap (λ k. crc_shifts k register) (zero-add n)
 crc_shifts-add (suc m) n register = ap (λ k. crc_shifts k register) (suc-add m n) ∙ crc_shifts-add m n (crc_shift register)
 
 -- the middle two change sides
-xor_swap : (a b c d : ℕ) → bit_xor (bit_xor a b) (bit_xor c d) ≡ bit_xor (bit_xor a c) (bit_xor b d)
+pub xor_swap : (a b c d : ℕ) → bit_xor (bit_xor a b) (bit_xor c d) ≡ bit_xor (bit_xor a c) (bit_xor b d)
 xor_swap a b c d =
     xor_assoc a b (bit_xor c d) ∙ ap (bit_xor a) (sym (xor_assoc b c d) ∙ ap (λ bc. bit_xor bc d) (xor_comm b c) ∙ xor_assoc c b d)
     ∙ sym (xor_assoc a c (bit_xor b d))
@@ -134,7 +134,7 @@ pub crc_zeros-empty : (bytes : ℕ) → crc_zeros bytes 0 ≡ 0
 unfolding crc_zeros
 crc_zeros-empty bytes = ap (crc_shifts (8 * bytes)) (sym (zero-mul (2 ^ (8 * bytes)))) ∙ crc_shifts-up (8 * bytes) 0
 
-crc_byte-zeros : (register byte : ℕ) → crc_byte register byte ≡ crc_zeros 1 (bit_xor register byte)
+pub crc_byte-zeros : (register byte : ℕ) → crc_byte register byte ≡ crc_zeros 1 (bit_xor register byte)
 unfolding crc_zeros crc_byte
 crc_byte-zeros register byte = refl
 

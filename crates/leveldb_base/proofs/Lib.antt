@@ -1,5 +1,6 @@
 pub mod VarintLemmas
 pub mod CrcLemmas
+pub mod CrcQuotientLemmas
 pub mod BlockHandleLemmas
 pub mod KeyTypesLemmas
 pub mod CmpLemmas

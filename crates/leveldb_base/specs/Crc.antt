@@ -1,6 +1,7 @@
 -- CRC32C, the checksum of LevelDB's logs and tables, bit by bit.
-use Rattle.std.specs.Prelude.{◌≡◌, ℕ, zero, suc, ◌+◌, ◌*◌, ◌/◌, ◌%◌, ◌^◌, ◌-◌, nat_eq, if◌then◌else◌, List, fold, bit_xor}
+use Rattle.std.specs.Prelude.{◌≡◌, ℕ, zero, suc, ◌+◌, ◌*◌, ◌/◌, ◌%◌, ◌^◌, ◌-◌, nat_eq, if◌then◌else◌, List, [], ◌∷◌, length, fold, bit_xor}
 use Rattle.std.specs.Int.{w32, rotate_left, rotate_right}
+use Rattle.std.specs.Simd.Lanes.{zip2, chunk}
 
 -- one bit leaves the register: where it was a one, the polynomial is taken off
 abbrev pub crc_shift : ℕ → ℕ
@@ -30,6 +31,14 @@ abbrev pub lanes_register : ℕ → ℕ → ℕ → ℕ → ℕ
 lanes_register first second third fourth =
     bit_xor (bit_xor (crc_zeros 16 first) (crc_zeros 12 second))
     (bit_xor (crc_zeros 8 third) (crc_zeros 4 fourth))
+
+-- What is left of a text at an offset, once the parts of some terms of a multiple of the polynomial
+-- are taken off: of each those bytes of the quotient that are so many further on.
+unfoldable pub reduced : List ℕ → List ℕ → ℕ → List ℕ → List ℕ
+reduced [] quotient offset text = text
+reduced (term ∷ terms) quotient offset text =
+    reduced terms quotient offset
+    (zip2 bit_xor text (chunk (offset + term) (length text) quotient))
 
 -- the register of a digest that has read the text: it is all ones at first
 abbrev pub HasRead : ℕ → List ℕ → Type 0

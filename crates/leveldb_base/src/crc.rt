@@ -3,6 +3,7 @@
 ghost use Rattle.std.specs.Prelude.{◌≡◌, ℕ, List, [], ◌++◌, bit_xor};
 ghost use Rattle.leveldb_base.specs.Crc.{crc_register, crc_of, masked, unmasked, HasRead};
 
+mod quotient;
 mod register;
 mod tables;
 

@@ -3,8 +3,12 @@
 ghost use Rattle.std.specs.Prelude.{◌≡◌, ℕ, ◌+◌, ◌<◌, ◌≤◌, List, [], ◌∷◌, ◌++◌, fold, bit_xor};
 ghost use Rattle.leveldb_base.specs.Crc.{crc_byte, crc_zeros, crc_register, crc_of, lanes_register, HasRead};
 
+use crate::crc::quotient::{MOST, after_division};
 use crate::crc::tables::TABLES;
 use std::marker::Model;
+
+// Fewer blocks than these are sooner done by the tables alone.
+const MANY: usize = 80;
 
 /// The checksum of a text that is read in pieces. A clause sees it as its register.
 #[derive(Drop)]
@@ -55,7 +59,21 @@ fn after_text(register: u32, text: &[u8]) -> u32
     after_bytes(after_words(after_blocks(register, blocks), words), bytes)
 }
 
-fn after_blocks(register: u32, blocks: &[[u8; 16]]) -> u32
+// Many blocks are divided first, as many at a time as can be.
+fn after_blocks(mut register: u32, blocks: &[[u8; 16]]) -> u32
+    ensures { result ≡ fold crc_register register blocks.now }
+{
+    let mut left = blocks;
+    while left.len() >= MANY {
+        let (piece, others) = left.split_at(left.len().min(MOST));
+        register = after_division(register, piece);
+        left = others;
+    }
+    after_few(register, left)
+}
+
+// Each block is read by the tables.
+fn after_few(register: u32, blocks: &[[u8; 16]]) -> u32
     ensures { result ≡ fold crc_register register blocks.now }
 {
     let Some((first, others)) = blocks.split_first() else {
@@ -86,10 +104,10 @@ fn after_bytes(mut register: u32, bytes: &[u8]) -> u32
     register
 }
 
-// Four registers side by side, each of which takes one word of a block: none waits for another, so
-// they overlap in a processor, and they need four of the tables.
+/// Four registers side by side, each of which takes one word of a block: none waits for another, so
+/// they overlap in a processor, and they need four of the tables.
 #[derive(Clone, Copy)]
-struct Lanes {
+pub(crate) struct Lanes {
     first: u32,
     second: u32,
     third: u32,
@@ -97,6 +115,19 @@ struct Lanes {
 }
 
 impl Lanes {
+    /// Those that stand for an empty register.
+    #[inline]
+    pub(crate) fn none() -> Lanes
+        ensures { lanes_register result.first result.second result.third result.fourth ≡ 0 }
+    {
+        Lanes {
+            first: 0,
+            second: 0,
+            third: 0,
+            fourth: 0,
+        }
+    }
+
     // Those that stand for the register after a block.
     #[inline]
     fn of(register: u32, block: &[u8; 16]) -> Lanes
@@ -114,7 +145,7 @@ impl Lanes {
 
     // Those after one block more.
     #[inline]
-    fn after(self, block: &[u8; 16]) -> Lanes
+    pub(crate) fn after(self, block: &[u8; 16]) -> Lanes
         ensures { lanes_register result.first result.second result.third result.fourth
             ≡ crc_register (lanes_register self.first self.second self.third self.fourth)
             block.now }
@@ -130,7 +161,7 @@ impl Lanes {
 
     // The one register that they stand for.
     #[inline]
-    fn joined(self) -> u32
+    pub(crate) fn joined(self) -> u32
         ensures { result ≡ lanes_register self.first self.second self.third self.fourth }
     {
         (moved(self.first, 12) ^ moved(self.second, 8))

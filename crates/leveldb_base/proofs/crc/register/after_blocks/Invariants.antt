@@ -1,9 +1,9 @@
-use Rattle.std.proofs.Common.{◌≡◌, fold, take}
-use Rattle.leveldb_base.specs.Crc.{crc_register, lanes_register}
+use Rattle.std.proofs.Common.{◌≡◌, fold, length}
+use Rattle.leveldb_base.specs.Crc.{crc_register}
 use Rattle.leveldb_base.proofs.crc.register.after_blocks.Given as goal
 
-abbrev pub invariant-loop-block : goal.invariant-loop-block
-invariant-loop-block l =
-    let first = l.initial.lanes
-    in lanes_register l.lanes.first l.lanes.second l.lanes.third l.lanes.fourth
-    ≡ fold crc_register (lanes_register first.first first.second first.third first.fourth) (take l.block-index l.others)
+abbrev pub invariant-loop-left : goal.invariant-loop-left
+invariant-loop-left l = fold crc_register l.register l.left ≡ fold crc_register l.fn.register l.fn.blocks
+
+abbrev pub decreases-loop-left : goal.decreases-loop-left
+decreases-loop-left l = length l.left

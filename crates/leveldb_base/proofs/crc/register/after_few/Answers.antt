@@ -1,7 +1,7 @@
 use Rattle.std.proofs.Common.{◌∙◌, ap, arith, sym, fold}
 use Rattle.std.proofs.lemmas.List.{take_all}
 use Rattle.leveldb_base.specs.Crc.{crc_register}
-use Rattle.leveldb_base.proofs.crc.register.after_blocks.Goals as goal
+use Rattle.leveldb_base.proofs.crc.register.after_few.Goals as goal
 
 pub returns : goal.returns
 returns c =
