@@ -1,8 +1,9 @@
-// Times look-ups, walks and seeks in C++ LevelDB, as db_bench's readrandom, readmissing, readseq, readreverse and seekrandom do here: all entries
-// are in tables, and as much as is timed goes before it.
+// Times look-ups, walks, seeks and openings in C++ LevelDB, as db_bench's readrandom, readmissing, readseq, readreverse, seekrandom, open and
+// tableopen do here. For the first five all entries are in tables, and as much as is timed goes before it.
 //
-//     theirs COUNT CACHE_SIZE ROUNDS [FOLDER]     prints, for each row, its name and the least nanoseconds an operation of the rounds, without
-//                                                 and with checksums verified; in memory, or in a new store in the folder
+//     theirs COUNT CACHE_SIZE ROUNDS [FOLDER STORE]     prints, for each row, its name and the least nanoseconds an operation of the rounds, without
+//                                                       and with checksums verified; in memory, or in a new store in the folder, with openings of
+//                                                       the store that is in the other. The table of tableopen is in memory
 #include <algorithm>
 #include <chrono>
 #include <cstdint>
@@ -17,6 +18,8 @@
 #include "leveldb/env.h"
 #include "leveldb/filter_policy.h"
 #include "leveldb/helpers/memenv.h"
+#include "leveldb/table.h"
+#include "leveldb/table_builder.h"
 
 namespace {
 
@@ -125,6 +128,47 @@ double Seek(const leveldb::Options& options, const leveldb::ReadOptions& reading
   return took.count() / static_cast<double>(count);
 }
 
+// Nanoseconds an opening of a store that goes on with its log, and a close. Paranoid checks are on where it verifies.
+double OpenAgain(leveldb::Options options, const leveldb::ReadOptions& reading, uint64_t count) {
+  options.reuse_logs = true;
+  options.paranoid_checks = reading.verify_checksums;
+  uint64_t times = (count + 9999) / 10000;
+  auto start = Clock::now();
+  for (uint64_t turn = 0; turn < times; ++turn) Open(options);
+  std::chrono::duration<double, std::nano> took = Clock::now() - start;
+  return took.count() / static_cast<double>(times);
+}
+
+// Puts a table of the pairs into a file, and returns its length.
+uint64_t Build(const leveldb::Options& options, uint64_t count) {
+  leveldb::WritableFile* file = nullptr;
+  Check(options.env->NewWritableFile("/table", &file));
+  std::unique_ptr<leveldb::WritableFile> owned(file);
+  leveldb::TableBuilder builder(options, file);
+  std::string value(100, 'v');
+  for (uint64_t number = 0; number < count; ++number) builder.Add(KeyOf(number), value);
+  Check(builder.Finish());
+  Check(file->Close());
+  return builder.FileSize();
+}
+
+// Nanoseconds an opening of that table.
+double OpenTable(leveldb::Options options, const leveldb::ReadOptions& reading, uint64_t count, uint64_t size) {
+  options.paranoid_checks = reading.verify_checksums;
+  uint64_t times = (count + 999) / 1000;
+  auto start = Clock::now();
+  for (uint64_t turn = 0; turn < times; ++turn) {
+    leveldb::RandomAccessFile* file = nullptr;
+    Check(options.env->NewRandomAccessFile("/table", &file));
+    std::unique_ptr<leveldb::RandomAccessFile> owned(file);
+    leveldb::Table* table = nullptr;
+    Check(leveldb::Table::Open(options, file, size, &table));
+    delete table;
+  }
+  std::chrono::duration<double, std::nano> took = Clock::now() - start;
+  return took.count() / static_cast<double>(times);
+}
+
 // The least of as many rounds, without and with checksums verified, in turn.
 template <typename Row>
 void Print(const char* name, int rounds, Row row) {
@@ -141,7 +185,7 @@ void Print(const char* name, int rounds, Row row) {
 }  // namespace
 
 int main(int argc, char** argv) {
-  if (argc != 4 && argc != 5) return 2;
+  if (argc != 4 && argc != 6) return 2;
   uint64_t count = std::strtoull(argv[1], nullptr, 10);
   uint64_t cache_size = std::strtoull(argv[2], nullptr, 10);
   int rounds = std::atoi(argv[3]);
@@ -149,17 +193,24 @@ int main(int argc, char** argv) {
   std::unique_ptr<leveldb::Cache> cache(leveldb::NewLRUCache(cache_size));
   std::unique_ptr<const leveldb::FilterPolicy> filter(leveldb::NewBloomFilterPolicy(10));
   leveldb::Options options;
-  options.env = argc == 5 ? leveldb::Env::Default() : memory.get();
+  options.env = argc == 6 ? leveldb::Env::Default() : memory.get();
   options.create_if_missing = true;
   options.compression = leveldb::kNoCompression;
   options.block_cache = cache.get();
   options.filter_policy = filter.get();
-  if (argc == 5) folder = std::string(argv[4]) + "/theirs";
+  if (argc == 6) folder = std::string(argv[4]) + "/theirs";
   Fill(options, count);
   Print("readrandom", rounds, [&](auto& reading) { return Get(options, reading, count, false); });
   Print("readmissing", rounds, [&](auto& reading) { return Get(options, reading, count, true); });
   Print("readseq", rounds, [&](auto& reading) { return Walk(options, reading, count, false); });
   Print("readreverse", rounds, [&](auto& reading) { return Walk(options, reading, count, true); });
   Print("seekrandom", rounds, [&](auto& reading) { return Seek(options, reading, count); });
+  if (argc == 6) {
+    folder = argv[5];
+    Print("open", rounds, [&](auto& reading) { return OpenAgain(options, reading, count); });
+  }
+  options.env = memory.get();
+  uint64_t size = Build(options, count);
+  Print("tableopen", rounds, [&](auto& reading) { return OpenTable(options, reading, count, size); });
   return 0;
 }
