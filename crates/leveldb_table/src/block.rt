@@ -7,7 +7,7 @@ ghost use Rattle.leveldb_table.specs.Block.{HasEntries, HasEntriesEndingAt, IsBl
 ghost use Rattle.leveldb_table.specs.BlockWalk.{position_over};
 ghost use Rattle.leveldb_table.specs.BlockLaws.{HasEntriesEndingAt-prop};
 
-use bytes::Bytes;
+use bytes::{Bytes, BytesMut};
 use check::{check_parts, entries_end};
 use leveldb_base::cmp::Cmp;
 use leveldb_base::error::{Result, StatusCode, err};
@@ -102,6 +102,12 @@ impl<C: Cmp + Drop> Block<C> {
         ensures memory { IfErr result IsOutOfMemory }
     {
         Ok(self.contents.clone()?)
+    }
+
+    /// The buffer that the block's bytes are in, to be used again, if nothing else shares them. It
+    /// takes no memory.
+    pub(crate) fn into_buffer(self) -> Option<BytesMut> {
+        self.contents.try_into_mut().ok()
     }
 }
 

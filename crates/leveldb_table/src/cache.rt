@@ -34,6 +34,9 @@ pub struct Cache<T: Drop> {
 
     // the number that was given last, or 0
     id: CacheID,
+
+    // the value that went out for the last one, if its memory is to be used again
+    displaced: Option<T>,
 }
 
 impl<T: Drop> Model for Cache<T> {
@@ -65,6 +68,7 @@ impl<T: Drop> Cache<T> {
             recent: LruCache::sparse(alloc, room)?,
             keeps: capacity > 0,
             id: 0,
+            displaced: None,
         })
     }
 
@@ -122,11 +126,31 @@ impl<T: Drop> Cache<T> {
         ensures err { OnErr result (self.new ≡ self.old) }
         ensures memory { IfErr result IsOutOfMemory }
     {
+        self.insert_displacing(key, elem)?;
+        self.displaced = None;
+        Ok(())
+    }
+
+    /// `insert`, but the value that goes out, if one does, is there for `take_displaced`.
+    pub(crate) fn insert_displacing(&mut self, key: &CacheKey, elem: T) -> Result<()>
+        ensures ok { OnOk result (self.new ≡ record self.old
+            { pairs = put_first self.old.capacity key.now elem self.old.pairs }) }
+        ensures err { OnErr result (self.new ≡ self.old) }
+        ensures memory { IfErr result IsOutOfMemory }
+    {
         if self.cap() == 0 {
             return Ok(());
         }
-        self.recent.put(Key(*key), elem)?;
+        let displaced = self.recent.push(Key(*key), elem)?;
+        self.displaced = displaced.map(|(_, value)| value);
         Ok(())
+    }
+
+    /// The value that went out for the last one of `insert_displacing`, if it wasn't taken yet.
+    pub(crate) fn take_displaced(&mut self) -> Option<T>
+        ensures { self.new ≡ self.old }
+    {
+        self.displaced.take()
     }
 
     /// The value under a key, which counts as used.
