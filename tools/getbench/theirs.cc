@@ -130,6 +130,7 @@ double Seek(const leveldb::Options& options, const leveldb::ReadOptions& reading
 
 // Nanoseconds an opening of a store that goes on with its log, and a close. Paranoid checks are on where it verifies.
 double OpenAgain(leveldb::Options options, const leveldb::ReadOptions& reading, uint64_t count) {
+  options.create_if_missing = false;
   options.reuse_logs = true;
   options.paranoid_checks = reading.verify_checksums;
   uint64_t times = (count + 9999) / 10000;

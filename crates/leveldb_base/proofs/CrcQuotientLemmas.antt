@@ -45,13 +45,13 @@ crc_register-sum r q (x ∷ a) (y ∷ b) same =
 crc_register-both : (a b : List ℕ) → length a ≡ length b → crc_register 0 (zip2 bit_xor a b) ≡ bit_xor (crc_register 0 a) (crc_register 0 b)
 crc_register-both a b same = crc_register-sum 0 0 a b same
 
--- zeros in front of a text, and behind it
-crc_register-between : (front behind : ℕ) (text : List ℕ)
-    → crc_register 0 (replicate front 0 ++ (text ++ replicate behind 0)) ≡ crc_zeros behind (crc_register 0 text)
-crc_register-between front behind text =
-    crc_register-append 0 (replicate front 0) (text ++ replicate behind 0)
-    ∙ ap (λ register. crc_register register (text ++ replicate behind 0)) (crc_register-zeros 0 front ∙ crc_zeros-empty front)
-    ∙ crc_register-append 0 text (replicate behind 0) ∙ crc_register-zeros (crc_register 0 text) behind
+-- zeros before a text, and after it
+crc_register-between : (front after : ℕ) (text : List ℕ)
+    → crc_register 0 (replicate front 0 ++ (text ++ replicate after 0)) ≡ crc_zeros after (crc_register 0 text)
+crc_register-between front after text =
+    crc_register-append 0 (replicate front 0) (text ++ replicate after 0)
+    ∙ ap (λ register. crc_register register (text ++ replicate after 0)) (crc_register-zeros 0 front ∙ crc_zeros-empty front)
+    ∙ crc_register-append 0 text (replicate after 0) ∙ crc_register-zeros (crc_register 0 text) after
 
 -- ---- a register stays within its bits
 
@@ -372,19 +372,19 @@ later_term : (register term : ℕ) (quotient : List ℕ) (after : ℕ) → 4 ≤
 unfolding in_front
 later_term register term quotient after some few long =
     let bytes = to_le_bytes w32 register in
-    let behind = quotient ++ replicate after 0 in
+    let padded = quotient ++ replicate after 0 in
     let front = 266 - term in
     let back = after - 266 + term in
     let in_bytes : 4 + (term - 4) ≡ term = omega arith in
     let dropped : drop term (bytes ++ replicate 262 0) ≡ replicate front 0 =
     ap (λ n. drop n (bytes ++ replicate 262 0)) (sym in_bytes) ∙ drop-append-add bytes (replicate 262 0) (term - 4)
     ∙ drop-replicate (term - 4) 262 0 ∙ (let left : 262 - (term - 4) ≡ front = omega arith in ap (λ n. replicate n 0) left) in
-    let cut : drop term (in_front register ++ behind) ≡ replicate front 0 ++ behind =
-    drop-append-le term (in_front register) behind (omega (arith, length-in_front register)) ∙ ap (λ l. l ++ behind) dropped in
+    let cut : drop term (in_front register ++ padded) ≡ replicate front 0 ++ padded =
+    drop-append-le term (in_front register) padded (omega (arith, length-in_front register)) ∙ ap (λ l. l ++ padded) dropped in
     let blank : List ℕ = replicate front 0 in
     let count : length quotient + after ≡ length blank + (length quotient + back) = omega (arith, length-replicate {A = ℕ} front 0) in
-    let taken : take (length quotient + after) (blank ++ behind) ≡ blank ++ (quotient ++ replicate back 0) =
-    ap (λ n. take n (blank ++ behind)) count ∙ take-append-add blank behind (length quotient + back)
+    let taken : take (length quotient + after) (blank ++ padded) ≡ blank ++ (quotient ++ replicate back 0) =
+    ap (λ n. take n (blank ++ padded)) count ∙ take-append-add blank padded (length quotient + back)
     ∙ ap (λ l. blank ++ l) (take-append-add quotient (replicate after 0) back
     ∙ ap (λ l. quotient ++ l) (take-replicate back after 0 (omega arith))) in
     ap (crc_register 0) (ap (take (length quotient + after)) cut ∙ taken) ∙ crc_register-between front back quotient
@@ -395,14 +395,14 @@ first_term : (register : ℕ) (quotient : List ℕ) (after : ℕ) → register <
     ≡ bit_xor (crc_zeros (length quotient + after) register) (crc_zeros (after - 266) (crc_register 0 quotient))
 first_term register quotient after fits long =
     let front = in_front register in
-    let behind = quotient ++ replicate after 0 in
+    let padded = quotient ++ replicate after 0 in
     let back = after - 266 in
     let many = length quotient in
     let own = crc_register 0 quotient in
     let read = crc_register 0 front in
     let count : many + after ≡ length front + (many + back) = omega (arith, length-in_front register) in
-    let taken : take (many + after) (front ++ behind) ≡ front ++ (quotient ++ replicate back 0) =
-    ap (λ n. take n (front ++ behind)) count ∙ take-append-add front behind (many + back)
+    let taken : take (many + after) (front ++ padded) ≡ front ++ (quotient ++ replicate back 0) =
+    ap (λ n. take n (front ++ padded)) count ∙ take-append-add front padded (many + back)
     ∙ ap (λ l. front ++ l) (take-append-add quotient (replicate after 0) back ∙ ap (λ l. quotient ++ l) (take-replicate back after 0 (omega arith))) in
     let zeros : crc_zeros back (crc_zeros many read) ≡ crc_zeros (many + after) register =
     ap (λ r. crc_zeros back (crc_zeros many r)) (crc_register-in_front register fits)
@@ -464,16 +464,16 @@ divided register text quotient left whole fits bytes is long count all =
 
 -- ---- as a body writes it
 
--- a part that is written at the front of what is behind an offset
+-- a part that is written at the front of what is from an offset on
 pub put_rest : (at rest : ℕ) (bytes next : List ℕ) → at + rest ≡ length bytes → length next ≤ rest
     → put_mid at rest bytes (put_chunk 0 (mid_of at rest bytes) next) ≡ put_chunk at bytes next
 put_rest at rest bytes next whole fits =
-    let behind = drop at bytes in
-    let long : length behind ≡ rest = omega (arith, length-drop at bytes) in
-    let all : take rest behind ≡ behind = take_all rest behind (omega arith) in
-    let none : drop rest behind ≡ [] = drop_all rest behind (omega arith) in
+    let tail = drop at bytes in
+    let long : length tail ≡ rest = omega (arith, length-drop at bytes) in
+    let all : take rest tail ≡ tail = take_all rest tail (omega arith) in
+    let none : drop rest tail ≡ [] = drop_all rest tail (omega arith) in
     ap₂ (λ part past. take at bytes ++ (put_chunk 0 part next ++ past)) all none
-    ∙ ap (λ l. take at bytes ++ l) (append-nil (put_chunk 0 behind next) ∙ put_chunk_is 0 behind next (omega arith))
+    ∙ ap (λ l. take at bytes ++ l) (append-nil (put_chunk 0 tail next) ∙ put_chunk_is 0 tail next (omega arith))
     ∙ sym (put_chunk_is at bytes next (omega arith))
 
 -- none is written

@@ -33,7 +33,7 @@ lanes_register first second third fourth =
     (bit_xor (crc_zeros 8 third) (crc_zeros 4 fourth))
 
 -- What is left of a text at an offset, once the parts of some terms of a multiple of the polynomial
--- are taken off: of each those bytes of the quotient that are so many further on.
+-- are taken off: of each the quotient's bytes from the offset and the term on.
 unfoldable pub reduced : List ℕ → List ℕ → ℕ → List ℕ → List ℕ
 reduced [] quotient offset text = text
 reduced (term ∷ terms) quotient offset text =

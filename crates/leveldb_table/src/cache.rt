@@ -35,7 +35,7 @@ pub struct Cache<T: Drop> {
     // the number that was given last, or 0
     id: CacheID,
 
-    // the value that went out for the last one, if its memory is to be used again
+    // what the last `insert_displacing` kept, if it wasn't taken yet
     displaced: Option<T>,
 }
 
@@ -126,12 +126,15 @@ impl<T: Drop> Cache<T> {
         ensures err { OnErr result (self.new ≡ self.old) }
         ensures memory { IfErr result IsOutOfMemory }
     {
-        self.insert_displacing(key, elem)?;
-        self.displaced = None;
+        if self.cap() == 0 {
+            return Ok(());
+        }
+        self.recent.put(Key(*key), elem)?;
         Ok(())
     }
 
-    /// `insert`, but the value that goes out, if one does, is there for `take_displaced`.
+    /// `insert`, but the value that was under the key, or else the one that went for lack of room,
+    /// is kept for `take_displaced`. In a cache with room for none nothing is.
     pub(crate) fn insert_displacing(&mut self, key: &CacheKey, elem: T) -> Result<()>
         ensures ok { OnOk result (self.new ≡ record self.old
             { pairs = put_first self.old.capacity key.now elem self.old.pairs }) }
@@ -146,7 +149,7 @@ impl<T: Drop> Cache<T> {
         Ok(())
     }
 
-    /// The value that went out for the last one of `insert_displacing`, if it wasn't taken yet.
+    /// The value that the last `insert_displacing` kept, once.
     pub(crate) fn take_displaced(&mut self) -> Option<T>
         ensures { self.new ≡ self.old }
     {

@@ -206,7 +206,8 @@ fn fitting(alloc: Global, mut buffer: BytesMut, size: usize) -> BytesMut
 
 /// `size` bytes of a file from `offset` on, which this part of a table has; `Corruption` where the
 /// file ends before. They are read into this buffer, if it has room for them and for no more than
-/// twice as many; else it takes no more memory than twice what the file gave, and a step.
+/// twice as many; else it takes less memory than four times what the file gave, and two
+/// steps.
 pub(crate) fn read_bytes<E: Env>(
     alloc: Global,
     env: &mut E,

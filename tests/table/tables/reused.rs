@@ -1,4 +1,4 @@
-//! Blocks of many lengths that are read into the buffers of others, which went out of a small cache.
+//! Blocks of many lengths that are read into the buffers of others, which left a small cache.
 use super::*;
 
 /// How many pairs the tables have, each in a block of its own.

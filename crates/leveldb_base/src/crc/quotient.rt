@@ -1,7 +1,7 @@
 //! The register after a long text, divided first by a multiple of the polynomial that has six
 //! terms: what is left of the text leaves the same register, and is short.
 // zlib-ng's Chorba divides so, by multiples of another polynomial.
-ghost use Rattle.std.specs.Prelude.{◌≡◌, ◌<◌, All, ◌+◌, ◌*◌, ◌≤◌, ◌++◌, fold, length, replicate};
+ghost use Rattle.std.specs.Prelude.{◌≡◌, ◌<◌, All, ◌+◌, ◌-◌, ◌*◌, ◌≤◌, ◌++◌, fold, length, replicate};
 ghost use Rattle.std.specs.List.{concat};
 ghost use Rattle.std.specs.Int.{w32, to_le_bytes};
 ghost use Rattle.std.specs.Simd.Lanes.{chunk, put_chunk};
@@ -10,21 +10,20 @@ ghost use Rattle.leveldb_base.specs.Crc.{crc_register, reduced};
 use crate::crc::register::Lanes;
 use std::simd::prelude::*;
 
-// The degree of the multiple, where x stands for a byte's eight bits:
-// x^266 + x^143 + x^121 + x^88 + x^71 + 1.
+// The degree of the multiple, x^266 + x^143 + x^121 + x^88 + x^71 + 1, in which x is eight bits.
 const DEGREE: usize = 266;
 
-// Its other terms.
+// The powers in its other terms.
 const TERMS: [usize; 5] = [0, 71, 88, 121, 143];
 
-/// So many blocks can be divided at once.
-pub(crate) const MOST: usize = 288;
+/// The most blocks that one division takes: 4608 bytes, so that a block of a table is done at once.
+pub(crate) const MOST_BLOCKS: usize = 288;
 
-// Their bytes, and as many as the degree.
-const ROOM: usize = 4874;
+// The blocks that a division leaves, of no fewer bytes than the degree.
+const LEFT_BLOCKS: usize = 17;
 
-// So many blocks are left of a text: no fewer bytes than the degree.
-const LEFT: usize = 17;
+// The room for a quotient of the most blocks, and for what is in front of it.
+const ROOM: usize = 16 * MOST_BLOCKS + DEGREE;
 
 // The quotient of a text. In front of it are the register before the text and zeros, together as
 // many bytes as the degree, and after it are zeros.
@@ -37,7 +36,7 @@ impl Quotient {
     // That of no text.
     #[inline]
     fn of(register: u32) -> Quotient
-        ensures { result.bytes ≡ to_le_bytes w32 register ++ replicate 4870 0 }
+        ensures { result.bytes ≡ to_le_bytes w32 register ++ replicate (ROOM - 4) 0 }
     {
         let mut bytes = [0; ROOM];
         bytes[..4].copy_from_slice(&register.to_le_bytes());
@@ -84,7 +83,7 @@ impl Quotient {
         ensures { result ≡ crc_register 0
             (reduced TERMS self.now.bytes offset (concat blocks.now)) }
     {
-        let mut lanes = Lanes::none();
+        let mut lanes = Lanes::zero();
         let mut at = offset;
         for block in blocks {
             lanes = lanes.after(&self.reduced(at, block).to_array());
@@ -94,14 +93,13 @@ impl Quotient {
     }
 }
 
-/// The register after blocks, of which there are at least as many as are left, and no more than
-/// can be divided at once.
+/// The register after blocks: at least `LEFT_BLOCKS`, at most `MOST_BLOCKS`.
 pub(crate) fn after_division(register: u32, blocks: &[[u8; 16]]) -> u32
-    requires some { LEFT ≤ length blocks.now }
-    requires most { length blocks.now ≤ MOST }
+    requires some { LEFT_BLOCKS ≤ length blocks.now }
+    requires most { length blocks.now ≤ MOST_BLOCKS }
     ensures { result ≡ fold crc_register register blocks.now }
 {
-    let (divided, left) = blocks.split_at(blocks.len() - LEFT);
+    let (divided, left) = blocks.split_at(blocks.len() - LEFT_BLOCKS);
     let mut quotient = Quotient::of(register);
     quotient.divide(divided);
     quotient.after_left(divided.len() * 16, left)

@@ -3,12 +3,12 @@
 ghost use Rattle.std.specs.Prelude.{◌≡◌, ℕ, ◌+◌, ◌<◌, ◌≤◌, List, [], ◌∷◌, ◌++◌, fold, bit_xor};
 ghost use Rattle.leveldb_base.specs.Crc.{crc_byte, crc_zeros, crc_register, crc_of, lanes_register, HasRead};
 
-use crate::crc::quotient::{MOST, after_division};
+use crate::crc::quotient::{MOST_BLOCKS, after_division};
 use crate::crc::tables::TABLES;
 use std::marker::Model;
 
-// Fewer blocks than these are sooner done by the tables alone.
-const MANY: usize = 80;
+// The fewest blocks that are divided: the tables alone are as fast for fewer.
+const FEWEST_DIVIDED: usize = 80;
 
 /// The checksum of a text that is read in pieces. A clause sees it as its register.
 #[derive(Drop)]
@@ -64,8 +64,8 @@ fn after_blocks(mut register: u32, blocks: &[[u8; 16]]) -> u32
     ensures { result ≡ fold crc_register register blocks.now }
 {
     let mut left = blocks;
-    while left.len() >= MANY {
-        let (piece, others) = left.split_at(left.len().min(MOST));
+    while left.len() >= FEWEST_DIVIDED {
+        let (piece, others) = left.split_at(left.len().min(MOST_BLOCKS));
         register = after_division(register, piece);
         left = others;
     }
@@ -115,9 +115,9 @@ pub(crate) struct Lanes {
 }
 
 impl Lanes {
-    /// Those that stand for an empty register.
+    /// Those of a register of 0.
     #[inline]
-    pub(crate) fn none() -> Lanes
+    pub(crate) fn zero() -> Lanes
         ensures { lanes_register result.first result.second result.third result.fourth ≡ 0 }
     {
         Lanes {

@@ -12,7 +12,7 @@ use leveldb_base::error::Result;
 use std::alloc::Global;
 use std::mem;
 
-// So much room is made at first for a key, so that for most keys no more has to be made.
+// The room that a key's buffer begins with: most keys fit.
 const KEY_ROOM: usize = 64;
 
 // Whether the entry shares no more than it may with the key before it.

@@ -59,8 +59,8 @@ fn read_footer<E: Env>(alloc: Global, env: &mut E, file: &E::File, size: usize) 
     let Some(offset) = size.checked_sub(FULL_FOOTER_LENGTH) else {
         return too_short(alloc, size);
     };
-    let (size, buffer) = (FULL_FOOTER_LENGTH, BytesMut::new(alloc));
-    let bytes = read_bytes(alloc, env, file, "footer", offset, size, buffer)?;
+    let (length, buffer) = (FULL_FOOTER_LENGTH, BytesMut::new(alloc));
+    let bytes = read_bytes(alloc, env, file, "footer", offset, length, buffer)?;
     match Footer::decode(bytes.as_slice()) {
         Some(footer) => Ok(footer),
         None => corruption(alloc, "footer", offset, "no magic number, or bad handles"),

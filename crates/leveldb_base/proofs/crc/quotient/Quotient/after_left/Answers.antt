@@ -10,7 +10,7 @@ use Rattle.leveldb_base.proofs.crc.quotient.Quotient.after_left.Goals as goal
 pub loop-block-init : goal.loop-block-init
 unfolding crc_register
 loop-block-init c =
-    record { far = omega arith; count = refl; read = c.none-lanes.ensures ∙ ap (crc_register 0) (sym (reduced-none TERMS c.args.self.now.bytes c.args.offset)) }
+    record { far = omega arith; count = refl; read = c.zero-lanes.ensures ∙ ap (crc_register 0) (sym (reduced-none TERMS c.args.self.now.bytes c.args.offset)) }
 
 pub loop-block-preserved : goal.loop-block-preserved
 loop-block-preserved c =
