@@ -34,9 +34,6 @@ pub struct Cache<T: Drop> {
 
     // the number that was given last, or 0
     id: CacheID,
-
-    // what the last `insert_displacing` kept, if it wasn't taken yet
-    displaced: Option<T>,
 }
 
 impl<T: Drop> Model for Cache<T> {
@@ -68,7 +65,6 @@ impl<T: Drop> Cache<T> {
             recent: LruCache::sparse(alloc, room)?,
             keeps: capacity > 0,
             id: 0,
-            displaced: None,
         })
     }
 
@@ -131,29 +127,6 @@ impl<T: Drop> Cache<T> {
         }
         self.recent.put(Key(*key), elem)?;
         Ok(())
-    }
-
-    /// `insert`, but the value that was under the key, or else the one that went for lack of room,
-    /// is kept for `take_displaced`. In a cache with room for none nothing is.
-    pub(crate) fn insert_displacing(&mut self, key: &CacheKey, elem: T) -> Result<()>
-        ensures ok { OnOk result (self.new ≡ record self.old
-            { pairs = put_first self.old.capacity key.now elem self.old.pairs }) }
-        ensures err { OnErr result (self.new ≡ self.old) }
-        ensures memory { IfErr result IsOutOfMemory }
-    {
-        if self.cap() == 0 {
-            return Ok(());
-        }
-        let displaced = self.recent.push(Key(*key), elem)?;
-        self.displaced = displaced.map(|(_, value)| value);
-        Ok(())
-    }
-
-    /// The value that the last `insert_displacing` kept, once.
-    pub(crate) fn take_displaced(&mut self) -> Option<T>
-        ensures { self.new ≡ self.old }
-    {
-        self.displaced.take()
     }
 
     /// The value under a key, which counts as used.

@@ -8,8 +8,8 @@ ghost use Rattle.leveldb_table.specs.Cache.{looked_for};
 use super::{KeyBuffers, Table, TableCore};
 use crate::block::Block;
 use crate::block_cache::{BlockCache, CachedBlock, cache_key};
-use crate::table_block::read_block_into;
-use bytes::{Bytes, BytesMut};
+use crate::table_block::read_table_block;
+use bytes::Bytes;
 use leveldb_base::blockhandle::BlockHandle;
 use leveldb_base::cmp::Cmp;
 use leveldb_base::error::Result;
@@ -69,8 +69,7 @@ impl<E: Env, C: Cmp + Copy + Drop, FP: FilterPolicy> TableReader<'_, E, C, FP> {
     }
 
     /// The block at a handle, from the cache or from the file; that is put into the cache then, if
-    /// `fills` says so. It is read into the buffer of the block that went out of the cache last, if
-    /// that fits.
+    /// `fills` says so.
     pub(crate) fn read_block(
         &mut self,
         alloc: Global,
@@ -85,13 +84,12 @@ impl<E: Env, C: Cmp + Copy + Drop, FP: FilterPolicy> TableReader<'_, E, C, FP> {
             return Ok(found);
         }
         let (cmp, file) = (table.cmp, &table.file);
-        let buffer = displaced_buffer(alloc, self.cache);
-        let block = read_block_into(alloc, cmp, self.env, file, self.compressors, handle, buffer)?;
+        let block = read_table_block(alloc, cmp, self.env, file, self.compressors, handle)?;
         if !fills {
             return Ok(block);
         }
         let copy = block.clone()?;
-        self.cache.insert_displacing(
+        self.cache.insert(
             &cache_key(table.id, handle.offset()),
             CachedBlock {
                 handle,
@@ -99,17 +97,6 @@ impl<E: Env, C: Cmp + Copy + Drop, FP: FilterPolicy> TableReader<'_, E, C, FP> {
             },
         )?;
         Ok(block)
-    }
-}
-
-// The buffer of the block that went out of the cache last, if nothing else has its bytes; else one
-// without room.
-fn displaced_buffer<C: Cmp + Drop>(alloc: Global, cache: &mut BlockCache<C>) -> BytesMut
-    ensures { cache.new ≡ cache.old }
-{
-    match cache.take_displaced() {
-        Some(held) => held.block.into_buffer().unwrap_or(BytesMut::new(alloc)),
-        None => BytesMut::new(alloc),
     }
 }
 

@@ -1,5 +1,4 @@
-use Rattle.std.proofs.Common.{◌≡◌, ◌∷◌, ◌++◌, [], List, length, map, refl, sym, subst, ap, ◌∙◌, append-nil, arith}
-use Rattle.std.proofs.lemmas.List.{append_assoc, map-append}
+use Rattle.std.proofs.Common.{◌≡◌, ◌∷◌, [], List, length, map, refl, sym, subst, ◌∙◌, append-nil, arith}
 use Rattle.std.specs.Vec.Iter.{into_iter_items}
 use Rattle.leveldb_repair.specs.declared.found_walk.FoundWalk.TheVariants.{Table}
 use Rattle.leveldb_repair.proofs.repair_store.children.table_walks.Goals as goal
@@ -7,18 +6,6 @@ use Rattle.leveldb_repair.proofs.repair_store.children.table_walks.Goals as goal
 nothing_left : {X : Type 0} (l : List X) → length l ≡ 0 → l ≡ []
 nothing_left [] h = refl
 nothing_left (x ∷ xs) h = absurd (omega arith)
-
-pub loop-table-preserved : goal.loop-table-preserved
-loop-table-preserved g c =
-    let at = c.loop-table in
-    let table = c.in-Some.table in
-    let steps : into_iter_items at.table-iterator ≡ table ∷ into_iter_items c.next.new.self = c.in-Some.ensures.steps.0 in
-    let was = at.invariant.2 in
-    let gone = c.in-Some.ensures.steps.1 in
-    let short = ap length steps in
-    (append_assoc at.yielded (table ∷ []) _ ∙ rw (← steps) at.invariant.0,
-        c.in_ok-push.ensures.items ∙ ap (λ l. l ++ Table table ∷ []) at.invariant.1 ∙ sym (map-append Table at.yielded (table ∷ [])),
-        omega arith)
 
 pub returns-clause-ok : goal.returns-clause-ok
 returns-clause-ok g c =

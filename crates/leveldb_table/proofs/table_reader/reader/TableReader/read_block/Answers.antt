@@ -36,7 +36,7 @@ returns-in_err-block g c =
       reads = rw (← c.table.view_is) (reads_refused g.E.Env result refused.1 c.in_err-block.ensures.reads);
       ok = IfOk-from_err result _ refused.0;
       encoded = IfOk-from_err result _ refused.0;
-      gathers = GainsBlocks-look_up (cache_key c.args.self.now.table.now.id c.args.handle.offset) (c.displaced_buffer-buffer.ensures ∙ c.cached_block.ensures.cache);
+      gathers = GainsBlocks-look_up (cache_key c.args.self.now.table.now.id c.args.handle.offset) c.cached_block.ensures.cache;
       same = record { table = refl; compressors = refl; env = refl; cache = refl };
     }
 
@@ -45,7 +45,7 @@ returns-then-not-fills g c = record {
   reads = search rules;
   ok = rw (← c.table.view_is) (λ bytes has holds. (c.in_ok-block.ensures.ok bytes has, ap g.C.Cmp.cmp c.in_ok-block.ensures.order));
   encoded = search rules;
-  gathers = GainsBlocks-look_up (cache_key c.args.self.now.table.now.id c.args.handle.offset) (c.displaced_buffer-buffer.ensures ∙ c.cached_block.ensures.cache);
+  gathers = GainsBlocks-look_up (cache_key c.args.self.now.table.now.id c.args.handle.offset) c.cached_block.ensures.cache;
   same = record { table = refl; compressors = refl; env = refl; cache = refl };
 }
 
@@ -57,19 +57,19 @@ returns-in_err-copy g c =
       reads = search rules;
       ok = IfOk-from_err result _ refused.0;
       encoded = IfOk-from_err result _ refused.0;
-      gathers = GainsBlocks-look_up (cache_key c.args.self.now.table.now.id c.args.handle.offset) (c.displaced_buffer-buffer.ensures ∙ c.cached_block.ensures.cache);
+      gathers = GainsBlocks-look_up (cache_key c.args.self.now.table.now.id c.args.handle.offset) c.cached_block.ensures.cache;
       same = record { table = refl; compressors = refl; env = refl; cache = refl };
     }
 
-pub returns-in_err-insert_displacing : goal.returns-in_err-insert_displacing
-returns-in_err-insert_displacing g c =
-    let result = c.from_residual-in_err-insert_displacing.result in
-    let refused = c.from_residual-in_err-insert_displacing.ensures in
+pub returns-in_err-insert : goal.returns-in_err-insert
+returns-in_err-insert g c =
+    let result = c.from_residual-in_err-insert.result in
+    let refused = c.from_residual-in_err-insert.ensures in
     record {
       reads = search rules;
       ok = IfOk-from_err result _ refused.0;
       encoded = IfOk-from_err result _ refused.0;
-      gathers = GainsBlocks-look_up (cache_key c.args.self.now.table.now.id c.args.handle.offset) (c.in_err-insert_displacing.ensures.err ∙ c.displaced_buffer-buffer.ensures ∙ c.cached_block.ensures.cache);
+      gathers = GainsBlocks-look_up (cache_key c.args.self.now.table.now.id c.args.handle.offset) (c.in_err-insert.ensures.err ∙ c.cached_block.ensures.cache);
       same = record { table = refl; compressors = refl; env = refl; cache = refl };
     }
 
@@ -83,8 +83,8 @@ returns g c =
       reads = search rules;
       ok = rw (← c.table.view_is) (λ bytes has holds. (c.in_ok-block.ensures.ok bytes has, ap g.C.Cmp.cmp c.in_ok-block.ensures.order));
       encoded = search rules;
-      gathers = rw (← c.table.view_is) (GainsBlocks-trans (GainsBlocks-look_up (cache_key id c.args.handle.offset) (c.displaced_buffer-buffer.ensures ∙ c.cached_block.ensures.cache))
-          (GainsBlocks-put c.args.handle.offset held (c.in_ok-insert_displacing.ensures.ok ∙ ap (λ key. after_put key held c.displaced_buffer-buffer.new.cache) key_is)
+      gathers = rw (← c.table.view_is) (GainsBlocks-trans (GainsBlocks-look_up (cache_key id c.args.handle.offset) c.cached_block.ensures.cache)
+          (GainsBlocks-put c.args.handle.offset held (c.in_ok-insert.ensures.ok ∙ ap (λ key. after_put key held c.cached_block.new.cache) key_is)
           (λ bytes has. IsBlockOfFile-copy c.args.handle c.in_ok-block.block c.in_ok-copy.copy (ap (λ block. block.contents) copied.0) (ap (λ block. block.cmp) copied.0) (ap g.C.Cmp.cmp c.in_ok-block.ensures.order) (c.in_ok-block.ensures.ok bytes has))));
       same = record { table = refl; compressors = refl; env = refl; cache = refl };
     }
