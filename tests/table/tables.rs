@@ -26,6 +26,7 @@ use support::{ShortReads, change_byte, failed_with};
 mod caches;
 mod damage;
 mod places;
+mod reused;
 
 /// An empty key, empty values, keys that are prefixes of others, and keys of great bytes.
 const PAIRS: [Given<'static>; 12] = [

@@ -1,6 +1,6 @@
 -- What a cache of blocks holds after a look-up, after a put, and after one call and another, and
 -- whose blocks those are.
-use Rattle.std.proofs.Common.{◌≡◌, ◌≢◌, ◌⊎◌, ℕ, zero, suc, ◌^◌, ◌<◌, ◌≤◌, true, false, cond, List, [], ◌∷◌, ◌++◌, take, None, Some, refl, sym, ◌∙◌, ap, subst, inl, inr, ⊎_elim, arith}
+use Rattle.std.proofs.Common.{◌≡◌, ◌≢◌, ◌⊎◌, ℕ, zero, suc, ◌-◌, ◌^◌, ◌<◌, ◌≤◌, true, false, cond, List, [], ◌∷◌, ◌++◌, take, None, Some, refl, sym, ◌∙◌, ap, subst, inl, inr, ⊎_elim, arith}
 use Rattle.std.specs.Str.{bytes_eq}
 use Rattle.std.specs.Cmp.Lexicographic.{same_text}
 use Rattle.std.specs.declared.cmp.Ordering.{Ordering}
@@ -16,7 +16,7 @@ use Rattle.leveldb_table.specs.Table.{HasBlockAt}
 use Rattle.leveldb_table.specs.BlockCache.{cache_key, IsBlockOfFile, HoldsOnlyOf, GainsBlocks, IsCachedAt, IsNumbered}
 use Rattle.leveldb_table.specs.Block.{BlockRead}
 use Rattle.leveldb_table.specs.declared.block_cache.CachedBlock.{CachedBlock}
-use Rattle.leveldb_table.proofs.CacheLemmas.{after_look_up, after_put}
+use Rattle.leveldb_table.proofs.CacheLemmas.{after_look_up, after_put, after_room}
 
 -- ---- what is found
 
@@ -122,6 +122,11 @@ module _ {C : Type 0} where
     given = refl;
     each = λ q other found. ⊎_elim inl (λ new. inr (offset, new.0, subst (Right offset) new.1 right)) (put_finds q old.capacity (cache_key id offset) held other old.pairs found);
   })
+
+  -- room that is made
+  pub GainsBlocks-room : {id : ℕ} {Right : ℕ → CachedBlock C → Type 0} {old new : Cached (CachedBlock C)} → new ≡ after_room old → GainsBlocks id Right old new
+  GainsBlocks-room {id} {Right} {old} e =
+      subst (GainsBlocks id Right old) (sym e) (record { capacity = refl; given = refl; each = λ q held found. inl (front_finds q held (old.capacity - 1) old.pairs found) })
 
   -- a block's offset has 64 bits
   IsBlockOfFile-fits : {order : CmpGhosts C} {codings : Codings} {cmp : List ℕ → List ℕ → Ordering} {bytes : List ℕ} {offset : ℕ} {held : CachedBlock C} → IsBlockOfFile order codings cmp bytes offset held → offset < 2 ^ 64

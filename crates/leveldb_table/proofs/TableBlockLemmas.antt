@@ -1,10 +1,11 @@
 -- Calls that read a table's file, one after another.
-use Rattle.std.proofs.Common.{◌≡◌, ◌⊎◌, ℕ, List, Result, Ok, Err, refl, sym, ◌∙◌, ap, subst, inl, inr, ⊎_elim, arith, ◌+◌, ◌-◌, ◌≤◌, ◌<◌, ◌^◌, [], ◌++◌, length, take, drop, Option, None, Some, length-append, length-drop}
-use Rattle.std.specs.Prelude.{IfErr, IsTrue, IsSomeAnd, IsErrAnd}
+use Rattle.std.proofs.Common.{◌≡◌, ◌⊎◌, ℕ, List, Result, Ok, Err, refl, sym, ◌∙◌, ap, subst, inl, inr, ⊎_elim, arith, ◌+◌, ◌-◌, ◌≤◌, ◌<◌, ◌^◌, [], ◌++◌, length, take, drop, Option, None, Some, length-append, length-drop, length-take}
+use Rattle.std.specs.Prelude.{IfErr, IfOk, IsTrue, IsSomeAnd, IsErrAnd}
 use Rattle.std.proofs.Math.Seq.{take-add, take-append-add}
-use Rattle.std.proofs.lemmas.List.{drop-drop, length-take-le, take_all, take_at, take-append-le}
+use Rattle.std.proofs.lemmas.List.{drop-drop, length-take-le, take_at, take-append-le}
 use Rattle.std.specs.declared.cmp.Ordering.{Ordering}
 use borrow.Rule.Slice.PartMut.{put_mid, post_of}
+use Rattle.bytes.specs.Filled.{Filled, with_items}
 use Rattle.leveldb_base.specs.declared.error.Status.{Status}
 use Rattle.leveldb_base.specs.declared.error.StatusCode.{StatusCode}
 use Rattle.leveldb_base.specs.declared.error.StatusCode.TheVariants.{Corruption, NotFound, OutOfMemory}
@@ -14,17 +15,22 @@ use Rattle.leveldb_base.specs.Types.{Pair}
 use Rattle.leveldb_env.specs.Env.{ChangesFiles, FilesUnchanged, SameLocks, HasCause, IsMissing, Files, bytes_of, same, ReadsFrom, ReadsAt, File}
 use Rattle.leveldb_env.proofs.EnvLemmas.{Run-call, Run-trans, begun, cause_refused}
 use Rattle.leveldb_env.specs.declared.env.Env.{Ghosts}
-use Rattle.leveldb_env.specs.Compressor.{Coding, Codings, Decodes, IsUnset, IsDecodeError, decoded_by, decoded_under}
+use Rattle.leveldb_env.specs.Compressor.{Coding, Codings, Decodes, decoded_by, decoded_under}
 use Rattle.leveldb_table.specs.TableBlock.{KeepsDisk, FileHas, FailsFor, ReadsFile, ForBytesOf, EndsBefore, StoresNothing, LacksBlock, unstored, undecoded, no_block, IsDamaged, IsLackError, IsUndecodedBy, IsUndecoded}
 use Rattle.leveldb_table.specs.Block.{IsNoBlock, IsBlock}
 use Rattle.leveldb_table.specs.Table.{StoresAt, HasBlockAt}
-use Rattle.leveldb_table.proofs.TableLemmas.{stores_one, has_one_block}
+use Rattle.leveldb_table.proofs.TableLemmas.{is_there_as, length-with_trailer, stores_one, has_one_block}
 
 -- what is refused with Corruption only where something is missing, and else out of memory
 pub damaged_or_memory : {T Missing : Type 0} (result : Result T Status) → (IsErrAnd result (λ status. status.code ≡ Corruption) → Missing)
     → IfErr result (λ status. (status.code ≡ Corruption) ⊎ IsOutOfMemory status) → IfErr result (λ status. IsOutOfMemory status ⊎ ((status.code ≡ Corruption) × Missing))
 damaged_or_memory (Ok answer) missing cause = tt
 damaged_or_memory (Err status) missing cause = ⊎_elim (λ code. inr (code, missing code)) (λ memory. inl memory) cause
+
+-- what two facts say of an answer
+pub ok_by_both : {T E : Type 0} {P Q R : T → Type 0} (result : Result T E) → ((answer : T) → P answer → Q answer → R answer) → IfOk result P → IfOk result Q → IfOk result R
+ok_by_both (Ok answer) both p q = both answer p q
+ok_by_both (Err error) both p q = tt
 
 memory_no_damage : {code : StatusCode} → code ≡ OutOfMemory → code ≡ Corruption → ⊥
 memory_no_damage memory damage = cc
@@ -176,21 +182,30 @@ module _ {E F : Type 0} (env : Ghosts E F) where
 
 -- what is written after the first bytes
 module _ (xs ys : List ℕ) (at : ℕ) (inside : at ≤ length xs) where
-  pub length-put_after : length ys ≡ length xs - at → length (put_mid at (length xs - at) xs ys) ≡ length xs
+  length-put_after : length ys ≡ length xs - at → length (put_mid at (length xs - at) xs ys) ≡ length xs
   length-put_after long =
       let rest : length (drop (length xs - at) (drop at xs)) ≡ 0 = omega (arith, length-drop (length xs - at) (drop at xs), length-drop at xs) in
       omega (arith, rest, long, length-append (take at xs) (ys ++ post_of at (length xs - at) xs), length-append ys (post_of at (length xs - at) xs), length-take-le at xs inside)
 
-  pub take-put_after : (room count : ℕ) → count ≤ length ys → take (at + count) (put_mid at room xs ys) ≡ take at xs ++ take count ys
+  take-put_after : (room count : ℕ) → count ≤ length ys → take (at + count) (put_mid at room xs ys) ≡ take at xs ++ take count ys
   take-put_after room count fits =
       let front = length-take-le at xs inside in
       sym (ap (λ n. take (n + count) (put_mid at room xs ys)) front)
       ∙ take-append-add (take at xs) (ys ++ post_of at room xs) count
       ∙ ap (λ z. take at xs ++ z) (take-append-le count ys (post_of at room xs) fits)
 
--- room was made after what was read, which is in front of it
-pub front_kept : (read room : List ℕ) (known more : ℕ) → known ≡ length read → take known (take (known + more) read ++ room) ≡ read
-front_kept read room known more is = ap (λ z. take known (z ++ room)) (take_all (known + more) read (omega (arith, is))) ∙ take_at read room known (sym is)
+-- a buffer whose bytes after the first ones were written, and which is cut after some of those
+pub cut_after : (buffer : Filled) (xs ys : List ℕ) (at count : ℕ) → xs ≡ buffer.items → at ≤ length xs → length ys ≡ length xs - at → count ≤ length ys
+    → take (at + count) (with_items buffer (put_mid at (length xs - at) xs ys)).items ≡ take at xs ++ take count ys
+cut_after buffer xs ys at count is inside long fits =
+    let held = put_mid at (length xs - at) xs ys in
+    let same : length held ≡ length buffer.items = length-put_after xs ys at inside long ∙ ap length is in
+    ap (take (at + count)) (take_at held (drop (length held) buffer.items) (length buffer.items) same) ∙ take-put_after xs ys at inside (length xs - at) count fits
+
+pub length-with_items : (buffer : Filled) (xs : List ℕ) → length (with_items buffer xs).items ≡ length buffer.items
+length-with_items buffer xs =
+    let long : length buffer.items ≤ length (xs ++ drop (length xs) buffer.items) = omega (arith, length-append xs (drop (length xs) buffer.items), length-drop (length xs) buffer.items) in
+    length-take-le (length buffer.items) (xs ++ drop (length xs) buffer.items) long
 
 -- ---- one read after another
 
@@ -244,6 +259,13 @@ module _ {E F : Type 0} (env : Ghosts E F) where
     pub ends_within : (size : ℕ) → length read < size → (offset + length read < 2 ^ 64 → ⊥) → ForBytesOf env old file (λ bytes. EndsBefore bytes offset size)
     ends_within size wanted far bytes has = omega (arith, wanted, far, has.fits, length-drop offset bytes)
 
+-- nothing is stored where the file ends before
+pub ends_stored : {bytes : List ℕ} {handle : Handle} {offset size total : ℕ} → offset ≡ handle.offset → size ≡ handle.size → total ≡ size + 5 → EndsBefore bytes offset total → StoresNothing bytes handle
+ends_stored {bytes} {handle} at sized whole ends id stored there =
+    let rest = drop handle.offset bytes in
+    let room : length rest < handle.size + 5 = omega (arith, whole, sized, ends, ap (λ n. length (drop n bytes)) at) in
+    omega (arith, room, ap length (is_there_as there), length-take (handle.size + 5) rest, length-with_trailer id stored, there.size)
+
 -- Why no block is read at a handle, though something may be stored there.
 
 -- ---- no block is there
@@ -283,19 +305,13 @@ module _ {E F : Type 0} (env : Ghosts E F) (codings : Codings) (cmp : List ℕ �
     lacks_decoded : (status : Status) → IsUndecoded codings id stored status → Lacks status
     lacks_decoded status why = (inr (id, stored, why), λ bytes has. undecoded id stored (is_there bytes has) why)
 
-    -- their id has no compressor
-    pub lacks_compressor : (status : Status) → codings id ≡ None → IsUnset id status → Lacks status
-    lacks_compressor status none unset = lacks_decoded status (subst (λ o. IsUndecodedBy o id stored status) (sym none) unset)
+    -- they aren't decoded
+    pub lacks_undecoded : {status : Status} → IsOutOfMemory status ⊎ IsUndecoded codings id stored status → IsOutOfMemory status ⊎ Lacks status
+    lacks_undecoded {status} why = ⊎_elim (λ memory. inl memory) (λ (none : IsUndecoded codings id stored status). inr (lacks_decoded status none)) why
 
-    module _ {coding : Coding} (compressor : codings id ≡ Some coding) where
-      -- their compressor refuses them
-      pub lacks_text : {status : Status} → IsOutOfMemory status ⊎ IsDecodeError coding stored status → IsOutOfMemory status ⊎ Lacks status
-      lacks_text {status} why = ⊎_elim (λ memory. inl memory)
-          (λ (none : IsDecodeError coding stored status). inr (lacks_decoded status (subst (λ o. IsUndecodedBy o id stored status) (sym compressor) none))) why
-
-      -- they are decoded to what is no block
-      pub lacks_block : {text : List ℕ} → coding.decoded stored ≡ Some text → (status : Status) → IsOutOfMemory status ⊎ ((status.code ≡ Corruption) × IsNoBlock cmp text) → IsOutOfMemory status ⊎ Lacks status
-      lacks_block {text} decoded status why = ⊎_elim (λ memory. inl memory) (λ (damaged : (status.code ≡ Corruption) × IsNoBlock cmp text). inr (
-        inl damaged.0,
-        λ bytes has. no_block text (record { id = id; stored = stored; is_there = is_there bytes has; decoded = ap (λ o. decoded_under o stored) compressor ∙ decoded }) damaged.1 damaged.0,
-      )) why
+    -- they are decoded to what is no block
+    pub lacks_block : {text : List ℕ} → Decodes codings id stored text → (status : Status) → IsOutOfMemory status ⊎ ((status.code ≡ Corruption) × IsNoBlock cmp text) → IsOutOfMemory status ⊎ Lacks status
+    lacks_block {text} decoded status why = ⊎_elim (λ memory. inl memory) (λ (damaged : (status.code ≡ Corruption) × IsNoBlock cmp text). inr (
+      inl damaged.0,
+      λ bytes has. no_block text (record { id = id; stored = stored; is_there = is_there bytes has; decoded = decoded }) damaged.1 damaged.0,
+    )) why

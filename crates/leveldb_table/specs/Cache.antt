@@ -1,5 +1,5 @@
 -- What a cache holds: pairs of keys and values, the one that was used last first.
-use Rattle.std.specs.Prelude.{ℕ, zero, suc, List, ◌∷◌, take, Option, None, Some}
+use Rattle.std.specs.Prelude.{ℕ, zero, suc, ◌-◌, List, ◌∷◌, take, Option, None, Some}
 use Rattle.std.specs.Str.{bytes_eq}
 use Rattle.std.specs.Map.{lookup, remove_entry}
 
@@ -32,3 +32,7 @@ module _ {T : Type 0} where
         | None ↦ take room pairs
         | Some old ↦ others key pairs
       ]
+
+  -- the pairs that leave room for one more: where there is none, the last one goes
+  abbrev pub with_room : ℕ → List (List ℕ × T) → List (List ℕ × T)
+  with_room capacity pairs = take (capacity - 1) pairs

@@ -1,13 +1,13 @@
 //! Blocks: sorted pairs as bytes, checked once and then walked both ways.
 // LevelDB: table/block.cc
-ghost use Rattle.std.specs.Prelude.{◌≡◌, ◌⊎◌, None, IfOk, IfErr, IsErrAnd};
+ghost use Rattle.std.specs.Prelude.{◌≡◌, ◌⊎◌, None, IfOk, IfErr, IfSome, IsErrAnd};
 ghost use Rattle.leveldb_base.specs.Error.{IsOutOfMemory};
 ghost use Rattle.leveldb_base.specs.declared.error.StatusCode.TheVariants.{Corruption};
 ghost use Rattle.leveldb_table.specs.Block.{HasEntries, HasEntriesEndingAt, IsBlock, IsNoBlock, pairs_of};
 ghost use Rattle.leveldb_table.specs.BlockWalk.{position_over};
 ghost use Rattle.leveldb_table.specs.BlockLaws.{HasEntriesEndingAt-prop};
 
-use bytes::Bytes;
+use bytes::{Bytes, BytesMut};
 use check::{check_parts, entries_end};
 use leveldb_base::cmp::Cmp;
 use leveldb_base::error::{Result, StatusCode, err};
@@ -102,6 +102,14 @@ impl<C: Cmp + Drop> Block<C> {
         ensures memory { IfErr result IsOutOfMemory }
     {
         Ok(self.contents.clone()?)
+    }
+
+    /// The buffer that the block's bytes are in, to be used again, if nothing else shares them. It
+    /// takes no memory.
+    pub(crate) fn into_buffer(self) -> Option<BytesMut>
+        ensures { IfSome result (λ buffer. buffer.items ≡ self.contents) }
+    {
+        self.contents.try_into_mut().ok()
     }
 }
 

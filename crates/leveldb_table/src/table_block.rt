@@ -1,23 +1,24 @@
 //! Blocks read from a table's file, each with its trailer.
 // LevelDB: table/format.cc, ReadBlock
-ghost use Rattle.std.specs.Prelude.{◌≡◌, ◌⊎◌, ◌≤◌, ◌<◌, ◌+◌, ◌^◌, ℕ, length, take, drop, List, None, IfOk, IfSome, IfNone, IsErrAnd};
+ghost use Rattle.std.specs.Prelude.{◌≡◌, ◌⊎◌, ◌≤◌, ◌<◌, ◌+◌, ◌^◌, ℕ, length, take, drop, List, [], None, IfOk, IfErr, IfSome, IfNone, IsErrAnd};
+ghost use Rattle.leveldb_base.specs.Error.{IsOutOfMemory};
 ghost use Rattle.leveldb_base.specs.declared.error.StatusCode.TheVariants.{InvalidArgument};
 ghost use Rattle.leveldb_env.specs.Compressor.{Decodes};
 ghost use Rattle.leveldb_env.specs.Env.{ReadsFrom};
 ghost use Rattle.leveldb_env.specs.FilterBlock.{IsFilterBlock};
 ghost use Rattle.leveldb_table.specs.Block.{HasEntries};
 ghost use Rattle.leveldb_table.specs.Table.{StoresAt, HasBlockAt, with_trailer};
-ghost use Rattle.leveldb_table.specs.TableBlock.{EndsBefore, StoresNothing, HasNoFilters, LacksBlock, ReadsFile, ForBytesOf, IsDamaged, IsLackError};
+ghost use Rattle.leveldb_table.specs.TableBlock.{EndsBefore, StoresNothing, HasNoFilters, LacksBlock, ReadsFile, ForBytesOf, IsDamaged, IsLackError, IsUndecoded};
 
 use crate::block::Block;
 use crate::damage::{corruption, located};
 use crate::table_builder::{TABLE_BLOCK_COMPRESS_LEN, TRAILER};
-use bytes::Bytes;
+use bytes::{Bytes, BytesMut};
 use leveldb_base::blockhandle::BlockHandle;
 use leveldb_base::cmp::Cmp;
 use leveldb_base::crc::{crc32, mask_crc};
 use leveldb_base::error::{Result, StatusCode, err};
-use leveldb_env::compressor::{Compressor, CompressorList, Compressors};
+use leveldb_env::compressor::{Compressor, CompressorList, Compressors, ListedCompressor};
 use leveldb_env::env::Env;
 use leveldb_env::filter::FilterPolicy;
 use leveldb_env::filter_block::FilterBlockReader;
@@ -52,9 +53,34 @@ pub fn read_table_block<E: Env, C: Cmp + Drop>(
     ensures encoded { IfOk result
         (λ block. HasEntries (C.cmp block.cmp) block.contents block.entries) }
 {
-    let (id, stored) = read_stored(alloc, env, file, location)?;
-    let block = compressors.get(alloc, id)?.decode(alloc, stored)?;
-    match Block::new(alloc, cmp, Bytes::from_vec(block)?) {
+    let buffer = BytesMut::new(alloc);
+    read_block_into(alloc, cmp, env, file, compressors, location, buffer)
+}
+
+/// `read_table_block`, but the block is read into this buffer, if it fits. What is in it doesn't
+/// matter.
+pub(crate) fn read_block_into<E: Env, C: Cmp + Drop>(
+    alloc: Global,
+    cmp: C,
+    env: &mut E,
+    file: &E::File,
+    compressors: &CompressorList,
+    location: BlockHandle,
+    buffer: BytesMut,
+) -> Result<Block<C>>
+    ensures reads { let codings = ⟦<CompressorList as Compressors>⟧.codings compressors.now in
+        ReadsFile E.Env (IsLackError E.Env codings (λ bytes.
+        LacksBlock codings (C.cmp cmp) bytes location) env.old file.now) env.old env.new
+        result }
+    ensures ok { IfOk result (λ block. ForBytesOf E.Env env.old file.now
+        (λ bytes. HasBlockAt (Decodes (⟦<CompressorList as Compressors>⟧.codings compressors.now))
+        bytes location block.contents)) }
+    ensures order { IfOk result (λ block. block.cmp ≡ cmp) }
+    ensures encoded { IfOk result
+        (λ block. HasEntries (C.cmp block.cmp) block.contents block.entries) }
+{
+    let (id, stored) = read_stored(alloc, env, file, location, buffer)?;
+    match Block::new(alloc, cmp, decoded(alloc, compressors, id, stored)?) {
         Ok(block) => Ok(block),
         Err(status) => located(alloc, status, "block", location.offset(), "not a block"),
     }
@@ -86,11 +112,12 @@ pub fn read_filter_block<E: Env, FP: FilterPolicy + Drop>(
             "no filter block in empty location",
         );
     }
-    let (id, stored) = read_stored(alloc, env, file, location)?;
+    let buffer = BytesMut::new(alloc);
+    let (id, stored) = read_stored(alloc, env, file, location, buffer)?;
     if id != 0 {
         return corruption(alloc, "filter block", location.offset(), "compressed");
     }
-    match FilterBlockReader::new_owned(alloc, policy, stored) {
+    match FilterBlockReader::new(alloc, policy, stored.freeze()?) {
         Ok(filters) => Ok(filters),
         Err(status) => {
             let offset = location.offset();
@@ -99,13 +126,38 @@ pub fn read_filter_block<E: Env, FP: FilterPolicy + Drop>(
     }
 }
 
-// The stored bytes at a handle, and the id after them.
+/// What the bytes that are stored under this id are decoded to. Those of a block that is stored as
+/// it is stay where they are.
+pub(crate) fn decoded(
+    alloc: Global,
+    compressors: &CompressorList,
+    id: u8,
+    stored: BytesMut,
+) -> Result<Bytes>
+    ensures ok { let codings = ⟦<CompressorList as Compressors>⟧.codings compressors.now in
+        IfOk result (Decodes codings id stored.items) }
+    ensures cause { let codings = ⟦<CompressorList as Compressors>⟧.codings compressors.now in
+        IfErr result (λ status. IsOutOfMemory status
+        ⊎ IsUndecoded codings id stored.items status) }
+{
+    match compressors.get(alloc, id)? {
+        ListedCompressor::Plain(_) => Ok(stored.freeze()?),
+        ListedCompressor::Boxed(compressor) => {
+            let copy = Vec::from_slice(alloc, stored.as_slice())?;
+            drop(stored);
+            Ok(Bytes::from_vec(compressor.decode(alloc, copy)?)?)
+        }
+    }
+}
+
+// The stored bytes at a handle, in this buffer, if it fits, and the id after them.
 fn read_stored<E: Env>(
     alloc: Global,
     env: &mut E,
     file: &E::File,
     location: BlockHandle,
-) -> Result<(u8, Vec<u8>)>
+    buffer: BytesMut,
+) -> Result<(u8, BytesMut)>
     ensures reads { ReadsFile E.Env (IsDamaged E.Env (λ bytes. StoresNothing bytes location)
         env.old file.now) env.old env.new result }
     ensures ok { IfOk result (λ found. ForBytesOf E.Env env.old file.now
@@ -115,8 +167,8 @@ fn read_stored<E: Env>(
     let Some(total) = size.checked_add(TRAILER) else {
         return corruption(alloc, "block", offset, PAST_END);
     };
-    let mut stored = read_bytes(alloc, env, file, "block", offset, total)?;
-    let Some(id) = checked_id(&stored, size) else {
+    let mut stored = read_bytes(alloc, env, file, "block", offset, total, buffer)?;
+    let Some(id) = checked_id(stored.as_slice(), size) else {
         return corruption(alloc, "block", offset, "wrong checksum");
     };
     stored.truncate(size);
@@ -138,8 +190,23 @@ pub(crate) fn checked_id(bytes: &[u8], size: usize) -> Option<u8>
     Some(stored[size])
 }
 
+// The buffer, emptied, if it has room for `size` bytes and for no more than twice as many; else one
+// without room.
+fn fitting(alloc: Global, mut buffer: BytesMut, size: usize) -> BytesMut
+    ensures items { result.items ≡ [] }
+    ensures spare { result.spare ≤ size + size }
+{
+    buffer.clear();
+    let room = buffer.capacity();
+    if room < size || size < room - size {
+        return BytesMut::new(alloc);
+    }
+    buffer
+}
+
 /// `size` bytes of a file from `offset` on, which this part of a table has; `Corruption` where the
-/// file ends before. It takes no more memory than twice what the file gave, and a step.
+/// file ends before. They are read into this buffer, if it has room for them and for no more than
+/// twice as many; else it takes less memory than four times what the file gave, and two steps.
 pub(crate) fn read_bytes<E: Env>(
     alloc: Global,
     env: &mut E,
@@ -147,22 +214,24 @@ pub(crate) fn read_bytes<E: Env>(
     part: &str,
     offset: usize,
     size: usize,
-) -> Result<Vec<u8>>
+    buffer: BytesMut,
+) -> Result<BytesMut>
     ensures reads { ReadsFile E.Env (IsDamaged E.Env (λ bytes. EndsBefore bytes offset size)
         env.old file.now) env.old env.new result }
     ensures ok { IfOk result (λ read. ForBytesOf E.Env env.old file.now
         (λ bytes. read.items ≡ take size (drop offset bytes))) }
     ensures size { IfOk result (λ read. length read.items ≡ size) }
 {
-    let mut read = Vec::new(alloc);
+    let mut read = fitting(alloc, buffer, size);
     while read.len() < size {
         let Some(next) = offset.checked_add(read.len()) else {
             return corruption(alloc, part, offset, PAST_END);
         };
         let known = read.len();
         let more = (size - known).min(known.max(STEP));
-        read.resize(known + more, 0)?;
-        let came = read_some(alloc, env, file, next, &mut read[known..])?;
+        read.reserve(more)?;
+        read.advance_mut(more);
+        let came = read_some(alloc, env, file, next, &mut read.as_mut_slice()[known..])?;
         if came == 0 {
             return corruption(alloc, part, offset, PAST_END);
         }

@@ -173,7 +173,22 @@ fn assert_left(
 #[test]
 fn long_walks(rt: HostRuntime) -> Result<()> {
     assert_left(&rt, 10, &[(b"", 10)])?;
-    assert_left(&rt, 4, &[(b"", 0), (b"ab", 4)])
+    assert_left(&rt, 4, &[(b"ab", 4), (b"", 0)])
+}
+
+/// A read that fails leaves the place of one block empty, and further ones that of no other.
+#[test]
+fn failed_reads(rt: HostRuntime) -> Result<()> {
+    let mut cache = Cache::new(rt.alloc(), 4)?;
+    let mut opened = Opened::new(&rt, &mut cache, &PAIRS)?;
+    assert!(rt; walk(rt.alloc(), &mut opened, &mut cache, true)? == 12);
+    assert!(rt; cache.count() == 4);
+    drop(file_of(&mut opened.env, b"")?);
+    for _ in 0..3 {
+        assert!(rt; pairs_from(rt.alloc(), &mut opened, &mut cache, b"")? == 0);
+        assert!(rt; cache.count() == 3);
+    }
+    Ok(())
 }
 
 const ODD: [Given<'static>; 2] = [(b"a", b"1"), (b"b", b"3")];

@@ -12,6 +12,9 @@ use leveldb_base::error::Result;
 use std::alloc::Global;
 use std::mem;
 
+// The room that a key's buffer begins with: most keys fit.
+const KEY_ROOM: usize = 64;
+
 // Whether the entry shares no more than it may with the key before it.
 #[inline]
 fn shares_within(first: bool, restart: bool, key: &[u8], entry: &EntryParts<'_>) -> bool
@@ -137,8 +140,8 @@ pub(crate) fn check_parts<C: Cmp>(
     if entries.is_empty() {
         return Ok(check_empty(points));
     }
-    let mut key = Vec::new(alloc);
-    let mut spare = Vec::new(alloc);
+    let mut key = Vec::with_capacity(alloc, KEY_ROOM)?;
+    let mut spare = Vec::with_capacity(alloc, KEY_ROOM)?;
     let mut left = entries;
     let mut points_left = points;
     let mut first = true;

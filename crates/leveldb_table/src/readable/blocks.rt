@@ -11,13 +11,13 @@ ghost use Rattle.leveldb_table.specs.TableReader.{EndsInFooter};
 
 use crate::block::Block;
 use crate::readable::judge::Judge;
-use crate::table_block::{checked_id, read_bytes};
+use crate::table_block::{checked_id, decoded, read_bytes};
 use crate::table_builder::{FULL_FOOTER_LENGTH, Footer, TRAILER};
-use bytes::Bytes;
+use bytes::BytesMut;
 use leveldb_base::blockhandle::BlockHandle;
 use leveldb_base::cmp::Cmp;
 use leveldb_base::error::{Result, StatusCode};
-use leveldb_env::compressor::{Compressor, CompressorList, Compressors};
+use leveldb_env::compressor::{CompressorList, Compressors};
 use leveldb_env::env::Env;
 
 impl<'a, E: Env, C: Cmp> Judge<'a, E, C> {
@@ -35,13 +35,14 @@ impl<'a, E: Env, C: Cmp> Judge<'a, E, C> {
             return Ok(None);
         };
         let (part, size) = ("footer", FULL_FOOTER_LENGTH);
-        let bytes = read_bytes(self.alloc, env, &self.file, part, offset, size)?;
-        Ok(Footer::decode(&bytes))
+        let buffer = BytesMut::new(self.alloc);
+        let bytes = read_bytes(self.alloc, env, &self.file, part, offset, size, buffer)?;
+        Ok(Footer::decode(bytes.as_slice()))
     }
 
     // The stored bytes at a handle, and the id after them, if the file has them and their checksum
     // is right.
-    fn stored(&self, env: &mut E, location: BlockHandle) -> Result<Option<(u8, Vec<u8>)>>
+    fn stored(&self, env: &mut E, location: BlockHandle) -> Result<Option<(u8, BytesMut)>>
         ensures reads { ReadsFile E.Env (IsDamaged E.Env (λ bytes.
             self.now.size ≡ length bytes → ⊥) env.old self.now.file) env.old env.new result }
         ensures ok { IfOk result (λ found. ForFileOf E.Env env.old self.now.file self.now.size
@@ -58,8 +59,10 @@ impl<'a, E: Env, C: Cmp> Judge<'a, E, C> {
         if room < size {
             return Ok(None);
         }
-        let mut stored = read_bytes(self.alloc, env, &self.file, "block", offset, size + TRAILER)?;
-        let Some(id) = checked_id(&stored, size) else {
+        let total = size + TRAILER;
+        let buffer = BytesMut::new(self.alloc);
+        let mut stored = read_bytes(self.alloc, env, &self.file, "block", offset, total, buffer)?;
+        let Some(id) = checked_id(stored.as_slice(), size) else {
             return Ok(None);
         };
         stored.truncate(size);
@@ -92,11 +95,8 @@ impl<'a, E: Env, C: Cmp> Judge<'a, E, C> {
         let Some((id, stored)) = self.stored(env, location)? else {
             return Ok(None);
         };
-        let text = self
-            .compressors
-            .get(self.alloc, id)?
-            .decode(self.alloc, stored)?;
-        match Block::new(self.alloc, cmp, Bytes::from_vec(text)?) {
+        let text = decoded(self.alloc, self.compressors, id, stored)?;
+        match Block::new(self.alloc, cmp, text) {
             Ok(block) => Ok(Some(block)),
             Err(status) if status.code == StatusCode::Corruption => Ok(None),
             Err(status) => Err(status),

@@ -14,6 +14,7 @@ use crate::block::Block;
 use crate::damage::{corruption, too_short};
 use crate::table_block::{read_bytes, read_filter_block, read_table_block};
 use crate::table_builder::{FULL_FOOTER_LENGTH, Footer};
+use bytes::BytesMut;
 use leveldb_base::blockhandle::BlockHandle;
 use leveldb_base::cmp::{Cmp, DefaultCmp};
 use leveldb_base::error::Result;
@@ -58,8 +59,9 @@ fn read_footer<E: Env>(alloc: Global, env: &mut E, file: &E::File, size: usize) 
     let Some(offset) = size.checked_sub(FULL_FOOTER_LENGTH) else {
         return too_short(alloc, size);
     };
-    let bytes = read_bytes(alloc, env, file, "footer", offset, FULL_FOOTER_LENGTH)?;
-    match Footer::decode(&bytes) {
+    let (length, buffer) = (FULL_FOOTER_LENGTH, BytesMut::new(alloc));
+    let bytes = read_bytes(alloc, env, file, "footer", offset, length, buffer)?;
+    match Footer::decode(bytes.as_slice()) {
         Some(footer) => Ok(footer),
         None => corruption(alloc, "footer", offset, "no magic number, or bad handles"),
     }

@@ -3,13 +3,13 @@
 ghost use Rattle.std.specs.Prelude.{IfErr, IfOk, IfSome, ◌≡◌};
 ghost use Rattle.leveldb_base.specs.Error.{IsOutOfMemory};
 ghost use Rattle.leveldb_table.specs.BlockCache.{IsCachedAt, cache_key};
-ghost use Rattle.leveldb_table.specs.Cache.{looked_for};
+ghost use Rattle.leveldb_table.specs.Cache.{looked_for, with_room};
 
 use super::{KeyBuffers, Table, TableCore};
 use crate::block::Block;
 use crate::block_cache::{BlockCache, CachedBlock, cache_key};
-use crate::table_block::read_table_block;
-use bytes::Bytes;
+use crate::table_block::{read_block_into, read_table_block};
+use bytes::{Bytes, BytesMut};
 use leveldb_base::blockhandle::BlockHandle;
 use leveldb_base::cmp::Cmp;
 use leveldb_base::error::Result;
@@ -69,7 +69,8 @@ impl<E: Env, C: Cmp + Copy + Drop, FP: FilterPolicy> TableReader<'_, E, C, FP> {
     }
 
     /// The block at a handle, from the cache or from the file; that is put into the cache then, if
-    /// `fills` says so.
+    /// `fills` says so. Where it takes another block's place there, it is read into its buffer, if
+    /// that fits; an error may leave the place empty.
     pub(crate) fn read_block(
         &mut self,
         alloc: Global,
@@ -84,10 +85,11 @@ impl<E: Env, C: Cmp + Copy + Drop, FP: FilterPolicy> TableReader<'_, E, C, FP> {
             return Ok(found);
         }
         let (cmp, file) = (table.cmp, &table.file);
-        let block = read_table_block(alloc, cmp, self.env, file, self.compressors, handle)?;
         if !fills {
-            return Ok(block);
+            return read_table_block(alloc, cmp, self.env, file, self.compressors, handle);
         }
+        let buffer = buffer_for_next(alloc, self.cache);
+        let block = read_block_into(alloc, cmp, self.env, file, self.compressors, handle, buffer)?;
         let copy = block.clone()?;
         self.cache.insert(
             &cache_key(table.id, handle.offset()),
@@ -97,6 +99,18 @@ impl<E: Env, C: Cmp + Copy + Drop, FP: FilterPolicy> TableReader<'_, E, C, FP> {
             },
         )?;
         Ok(block)
+    }
+}
+
+// Makes room in the cache for a block, and returns the buffer of the one that went, if nothing else
+// has its bytes; else one without room.
+fn buffer_for_next<C: Cmp + Drop>(alloc: Global, cache: &mut BlockCache<C>) -> BytesMut
+    ensures { cache.new ≡ record cache.old
+        { pairs = with_room cache.old.capacity cache.old.pairs } }
+{
+    match cache.make_room() {
+        Some(held) => held.block.into_buffer().unwrap_or(BytesMut::new(alloc)),
+        None => BytesMut::new(alloc),
     }
 }
 

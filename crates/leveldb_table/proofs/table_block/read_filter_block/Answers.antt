@@ -1,4 +1,4 @@
-use Rattle.std.proofs.Common.{ℕ, sym, subst, Err, inl, inr, ⊎_elim}
+use Rattle.std.proofs.Common.{ℕ, sym, ◌∙◌, subst, Err, inl, inr, ⊎_elim}
 use Rattle.leveldb_env.specs.FilterBlock.{IsFilterBlock}
 use Rattle.leveldb_table.proofs.TableBlockLemmas.{damaged_or_memory, located_as, reads_ok, reads_own, reads_weaker, reads_refused}
 use Rattle.leveldb_table.proofs.TableLemmas.{stores_one}
@@ -28,5 +28,5 @@ returns-in-Err-clause-reads g c =
     ⊎_elim (λ memory. inl memory) (λ damaged. inr (inr (
       damaged.0,
       λ bytes has text filters there block.
-          damaged.1 filters (subst (λ z. IsFilterBlock z filters) (sym (stores_one (c.in_ok-id.ensures.ok bytes has) there).1) block),
+          damaged.1 filters (subst (λ z. IsFilterBlock z filters) (sym (stores_one (c.in_ok-id.ensures.ok bytes has) there).1 ∙ sym c.in_ok-freeze.ensures.ok) block),
     ))) (located_as how found))

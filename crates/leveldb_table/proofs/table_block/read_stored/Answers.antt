@@ -2,9 +2,14 @@ use Rattle.std.proofs.Common.{◌≡◌, length, take, sym, ◌∙◌, ap, inr, 
 use Rattle.std.proofs.lemmas.List.{length-take-le}
 use Rattle.leveldb_base.specs.BlockHandle.{HandleFits}
 use Rattle.leveldb_table.specs.Table.{with_trailer}
-use Rattle.leveldb_table.proofs.TableBlockLemmas.{reads_own}
+use Rattle.leveldb_table.proofs.TableBlockLemmas.{ends_stored, reads_own, reads_refused, reads_weaker}
 use Rattle.leveldb_table.proofs.TableLemmas.{read_as, is_there_as, stores_from}
 use Rattle.leveldb_table.proofs.table_block.read_stored.Goals as goal
+
+pub returns-in_err-stored-clause-reads : goal.returns-in_err-stored-clause-reads
+returns-in_err-stored-clause-reads g c =
+    reads_refused g.E.Env c.from_residual.result c.from_residual.ensures.1
+    (reads_weaker g.E.Env _ (λ status damaged. (damaged.0, λ bytes has. ends_stored c.offset-offset.ensures c.size-size.ensures c.in-Some.ensures.1 (damaged.1 bytes has))) c.in_err-stored.ensures.reads)
 
 pub returns-in_default-checked_id-clause-reads : goal.returns-in_default-checked_id-clause-reads
 returns-in_default-checked_id-clause-reads g c =
@@ -14,7 +19,7 @@ returns-in_default-checked_id-clause-reads g c =
       code,
       λ bytes has id stored there.
           let read = read_as bytes c.args.location (c.in_ok-stored.ensures.ok bytes has) c.offset-offset.ensures c.size-size.ensures c.in-Some.ensures.1 in
-          c.in_default-checked_id.ensures.none id stored (there.size ∙ sym c.size-size.ensures) (c.deref.ensures.value ∙ read ∙ is_there_as there),
+          c.in_default-checked_id.ensures.none id stored (there.size ∙ sym c.size-size.ensures) (c.as_slice.ensures ∙ read ∙ is_there_as there),
     ))
 
 pub returns-clause-ok : goal.returns-clause-ok
@@ -28,4 +33,4 @@ returns-clause-ok g c = λ bytes has.
     let long : length c.truncate.new.self.items ≡ handle.size =
     ap length cut ∙ length-take-le c.size-size.result items (omega (arith, c.in_ok-stored.ensures.size, c.in-Some.ensures.1)) ∙ c.size-size.ensures in
     stores_from bytes handle id c.truncate.new.self.items fits long
-    (sym read ∙ sym c.deref.ensures.value ∙ c.in-Some-checked_id.ensures.some ∙ ap (λ z. with_trailer id (take c.size-size.result z)) c.deref.ensures.value ∙ sym (ap (with_trailer id) cut))
+    (sym read ∙ sym c.as_slice.ensures ∙ c.in-Some-checked_id.ensures.some ∙ ap (λ z. with_trailer id (take c.size-size.result z)) c.as_slice.ensures ∙ sym (ap (with_trailer id) cut))

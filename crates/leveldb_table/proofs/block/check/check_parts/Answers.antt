@@ -9,7 +9,7 @@ returns-then-is_empty-clause-found g c =
     checks_empty (g.C.Cmp.accepts c.args.cmp.now) (g.C.Cmp.cmp c.args.cmp.now) c.args.entries.now c.args.points.now none c.check_empty.result c.check_empty.ensures.some c.check_empty.ensures.none
 
 pub loop-left-init : goal.loop-left-init
-loop-left-init g c = checking_none c.new-key.result.items
+loop-left-init g c = checking_none c.in_ok-key.key.items
 
 pub returns-in_default-clause-found : goal.returns-in_default-clause-found
 returns-in_default-clause-found g c =

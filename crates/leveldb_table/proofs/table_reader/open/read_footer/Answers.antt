@@ -14,7 +14,7 @@ pub returns-in-Some-decode-clause-ok : goal.returns-in-Some-decode-clause-ok
 returns-in-Some-decode-clause-ok g c = λ bytes has.
     let read = c.in_ok-bytes.ensures in
     let decoded = c.in-Some-decode.ensures in
-    ends_at c.in-Some.offset (omega (arith, c.in-Some.ensures.0, c.in-Some.ensures.1)) decoded.0 decoded.1 read.size (read.ok bytes has) (sym c.deref.ensures.value ∙ decoded.2)
+    ends_at c.in-Some.offset (omega (arith, c.in-Some.ensures.0, c.in-Some.ensures.1)) decoded.0 decoded.1 read.size (read.ok bytes has) (sym c.as_slice.ensures ∙ decoded.2)
 
 pub returns-clause-reads : goal.returns-clause-reads
 returns-clause-reads g c =
@@ -22,5 +22,5 @@ returns-clause-reads g c =
     reads_own g.E.Env c.corruption.result read.reads.kept_disk read.reads.cause.ok c.corruption.ensures (λ status code. inr (
       code,
       λ bytes has meta index ends.
-          c.in-None.ensures meta index ends.meta_fits ends.index_fits (c.deref.ensures.value ∙ read.ok bytes has ∙ ends_with c.in-Some.offset (omega (arith, c.in-Some.ensures.0, c.in-Some.ensures.1)) ends),
+          c.in-None.ensures meta index ends.meta_fits ends.index_fits (c.as_slice.ensures ∙ read.ok bytes has ∙ ends_with c.in-Some.offset (omega (arith, c.in-Some.ensures.0, c.in-Some.ensures.1)) ends),
     ))

@@ -1,7 +1,6 @@
-use Rattle.std.proofs.Common.{rules, ◌≡◌, Some, ap, subst, sym, ◌∙◌}
+use Rattle.std.proofs.Common.{rules, ◌≡◌, subst}
 use Rattle.std.specs.Prelude.{MatchOption}
 use Rattle.leveldb_base.specs.declared.error.StatusCode.TheVariants.{Corruption}
-use Rattle.leveldb_env.specs.Compressor.{decoded_under}
 use Rattle.leveldb_env.specs.contracts.compressor.CompressorListCompressors.TheImpl
 use Rattle.leveldb_table.specs.Table.{StoresAt}
 use Rattle.leveldb_table.specs.TableBlock.{StoresNothing}
@@ -28,7 +27,6 @@ returns-in-Err-clause-ok g c = λ bytes has same.
       id = c.in-Some.id;
       stored = c.in-Some.stored.items;
       is_there = there;
-      decoded = ap (λ o. decoded_under o c.in-Some.stored.items) c.in_ok-get.ensures.ok ∙
-          c.in_ok-text.ensures.ok ∙ ap Some (sym c.in_ok-from_vec.ensures.ok);
+      decoded = c.in_ok-text.ensures.ok;
     })
     (c.in-Err.ensures.damage code)

@@ -10,7 +10,7 @@ returns-in_default-clause-ok g c = λ bytes has same meta index ends.
 pub returns-clause-ok : goal.returns-clause-ok
 returns-clause-ok g c = λ bytes has same.
     let read = c.in_ok-bytes.ensures in
-    let value = c.deref.ensures.value in
+    let value = c.as_slice.ensures in
     footer_read bytes c.in-Some.offset c.decode.result (omega (
       arith,
       c.in-Some.ensures.0,

@@ -1,16 +1,26 @@
-use Rattle.std.proofs.Common.{◌≡◌, length, take, sym, ◌∙◌, ap, refl, arith}
+use Rattle.std.proofs.Common.{◌≡◌, ◌+◌, length, take, sym, ◌∙◌, ap, refl, arith}
 use Rattle.std.proofs.lemmas.List.{length-take-le}
 use Rattle.leveldb_base.specs.BlockHandle.{HandleFits}
 use Rattle.leveldb_table.specs.Table.{with_trailer}
+use Rattle.leveldb_table.proofs.ReadableFileLemmas.{never_damaged}
+use Rattle.leveldb_table.proofs.TableBlockLemmas.{reads_refused, reads_weaker}
 use Rattle.leveldb_table.proofs.TableLemmas.{read_as, is_there_as, stores_from}
 use Rattle.leveldb_table.proofs.readable.judge.Judge.stored.Goals as goal
+
+pub returns-in_err-stored-clause-reads : goal.returns-in_err-stored-clause-reads
+returns-in_err-stored-clause-reads g c =
+    reads_refused g.E.Env c.from_residual.result c.from_residual.ensures.1
+    (reads_weaker g.E.Env _
+    (never_damaged g.E.Env c.offset-offset.result (c.size-size.result + 5) c.args.self.now.size
+    (omega (arith, c.in-Some.ensures, c.in-Some-checked_sub.ensures, c.if-room-size.false)))
+    c.in_err-stored.ensures.reads)
 
 pub returns-in_default-checked_id-clause-ok : goal.returns-in_default-checked_id-clause-ok
 returns-in_default-checked_id-clause-ok g c = λ bytes has same id stored there.
     let read = read_as bytes c.args.location (c.in_ok-stored.ensures.ok bytes has)
     c.offset-offset.ensures c.size-size.ensures refl in
     c.in_default-checked_id.ensures.none id stored (there.size ∙ sym c.size-size.ensures)
-    (c.deref.ensures.value ∙ read ∙ is_there_as there)
+    (c.as_slice.ensures ∙ read ∙ is_there_as there)
 
 pub returns-clause-ok : goal.returns-clause-ok
 returns-clause-ok g c = λ bytes has same.
@@ -27,6 +37,6 @@ returns-clause-ok g c = λ bytes has same.
       c.in_ok-stored.ensures.size,
     )) ∙ c.size-size.ensures in
     stores_from bytes handle id c.truncate.new.self.items fits long
-    (sym read ∙ sym c.deref.ensures.value ∙ c.in-Some-checked_id.ensures.some ∙ ap (λ z.
-    with_trailer id (take c.size-size.result z)) c.deref.ensures.value ∙ sym (ap (with_trailer
+    (sym read ∙ sym c.as_slice.ensures ∙ c.in-Some-checked_id.ensures.some ∙ ap (λ z.
+    with_trailer id (take c.size-size.result z)) c.as_slice.ensures ∙ sym (ap (with_trailer
     id) cut))

@@ -3,8 +3,8 @@ use Rattle.std.proofs.lemmas.Result.{IfOk-from_err}
 use Rattle.leveldb_table.specs.BlockCache.{cache_key}
 use Rattle.leveldb_table.specs.declared.block_cache.CachedBlock.{CachedBlock}
 use Rattle.leveldb_table.proofs.CacheLemmas.{after_put}
-use Rattle.leveldb_table.proofs.BlockCacheLemmas.{GainsBlocks-trans, GainsBlocks-look_up, GainsBlocks-put, IsCachedAt-is_there, IsBlockOfFile-copy}
-use Rattle.leveldb_table.proofs.TableBlockLemmas.{KeepsDisk-refl, reads_ok, reads_passed, reads_refused}
+use Rattle.leveldb_table.proofs.BlockCacheLemmas.{GainsBlocks-trans, GainsBlocks-look_up, GainsBlocks-room, GainsBlocks-put, IsCachedAt-is_there, IsBlockOfFile-copy}
+use Rattle.leveldb_table.proofs.TableBlockLemmas.{KeepsDisk-refl, ok_by_both, reads_ok, reads_passed, reads_refused}
 use Rattle.leveldb_table.proofs.table_reader.reader.TableReader.read_block.Goals as goal
 
 pub returns-in_err-found : goal.returns-in_err-found
@@ -36,14 +36,14 @@ returns-in_err-block g c =
       reads = rw (← c.table.view_is) (reads_refused g.E.Env result refused.1 c.in_err-block.ensures.reads);
       ok = IfOk-from_err result _ refused.0;
       encoded = IfOk-from_err result _ refused.0;
-      gathers = GainsBlocks-look_up (cache_key c.args.self.now.table.now.id c.args.handle.offset) c.cached_block.ensures.cache;
+      gathers = GainsBlocks-trans (GainsBlocks-look_up (cache_key c.args.self.now.table.now.id c.args.handle.offset) c.cached_block.ensures.cache) (GainsBlocks-room c.buffer_for_next-buffer.ensures);
       same = record { table = refl; compressors = refl; env = refl; cache = refl };
     }
 
 pub returns-then-not-fills : goal.returns-then-not-fills
 returns-then-not-fills g c = record {
-  reads = search rules;
-  ok = rw (← c.table.view_is) (λ bytes has holds. (c.in_ok-block.ensures.ok bytes has, ap g.C.Cmp.cmp c.in_ok-block.ensures.order));
+  reads = rw (← c.table.view_is) c.read_table_block.ensures.reads;
+  ok = rw (← c.table.view_is) (ok_by_both c.read_table_block.result (λ block is order bytes has holds. (is bytes has, ap g.C.Cmp.cmp order)) c.read_table_block.ensures.ok c.read_table_block.ensures.order);
   encoded = search rules;
   gathers = GainsBlocks-look_up (cache_key c.args.self.now.table.now.id c.args.handle.offset) c.cached_block.ensures.cache;
   same = record { table = refl; compressors = refl; env = refl; cache = refl };
@@ -57,7 +57,7 @@ returns-in_err-copy g c =
       reads = search rules;
       ok = IfOk-from_err result _ refused.0;
       encoded = IfOk-from_err result _ refused.0;
-      gathers = GainsBlocks-look_up (cache_key c.args.self.now.table.now.id c.args.handle.offset) c.cached_block.ensures.cache;
+      gathers = GainsBlocks-trans (GainsBlocks-look_up (cache_key c.args.self.now.table.now.id c.args.handle.offset) c.cached_block.ensures.cache) (GainsBlocks-room c.buffer_for_next-buffer.ensures);
       same = record { table = refl; compressors = refl; env = refl; cache = refl };
     }
 
@@ -69,7 +69,7 @@ returns-in_err-insert g c =
       reads = search rules;
       ok = IfOk-from_err result _ refused.0;
       encoded = IfOk-from_err result _ refused.0;
-      gathers = GainsBlocks-look_up (cache_key c.args.self.now.table.now.id c.args.handle.offset) (c.in_err-insert.ensures.err ∙ c.cached_block.ensures.cache);
+      gathers = GainsBlocks-trans (GainsBlocks-look_up (cache_key c.args.self.now.table.now.id c.args.handle.offset) c.cached_block.ensures.cache) (GainsBlocks-room (c.in_err-insert.ensures.err ∙ c.buffer_for_next-buffer.ensures));
       same = record { table = refl; compressors = refl; env = refl; cache = refl };
     }
 
@@ -83,8 +83,8 @@ returns g c =
       reads = search rules;
       ok = rw (← c.table.view_is) (λ bytes has holds. (c.in_ok-block.ensures.ok bytes has, ap g.C.Cmp.cmp c.in_ok-block.ensures.order));
       encoded = search rules;
-      gathers = rw (← c.table.view_is) (GainsBlocks-trans (GainsBlocks-look_up (cache_key id c.args.handle.offset) c.cached_block.ensures.cache)
-          (GainsBlocks-put c.args.handle.offset held (c.in_ok-insert.ensures.ok ∙ ap (λ key. after_put key held c.cached_block.new.cache) key_is)
+      gathers = rw (← c.table.view_is) (GainsBlocks-trans (GainsBlocks-trans (GainsBlocks-look_up (cache_key id c.args.handle.offset) c.cached_block.ensures.cache) (GainsBlocks-room c.buffer_for_next-buffer.ensures))
+          (GainsBlocks-put c.args.handle.offset held (c.in_ok-insert.ensures.ok ∙ ap (λ key. after_put key held c.buffer_for_next-buffer.new.cache) key_is)
           (λ bytes has. IsBlockOfFile-copy c.args.handle c.in_ok-block.block c.in_ok-copy.copy (ap (λ block. block.contents) copied.0) (ap (λ block. block.cmp) copied.0) (ap g.C.Cmp.cmp c.in_ok-block.ensures.order) (c.in_ok-block.ensures.ok bytes has))));
       same = record { table = refl; compressors = refl; env = refl; cache = refl };
     }
