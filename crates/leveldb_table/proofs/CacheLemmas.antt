@@ -6,7 +6,7 @@ use Rattle.std.specs.Map.{keys_of, lookup, lookup_entry}
 use Rattle.std.specs.Cmp.Lexicographic.{nat_list_eq_equiv, same_text}
 use Rattle.std.proofs.lemmas.Map.{lookup-remove_entry}
 use Rattle.lru.specs.LruCache.{LruCache, lru_cache, promoted, put_entries}
-use Rattle.leveldb_table.specs.Cache.{Cached, value_of, others, looked_for, put_first, with_room}
+use Rattle.leveldb_table.specs.Cache.{Cached, value_of, others, looked_for, put_first, leaving_room}
 
 -- a cache over a map that is used or isn't, with the number that was given last
 abbrev pub cached_of : {T : Type 0} → LruCache (List ℕ) T → Bool → ℕ → Cached T
@@ -22,7 +22,7 @@ after_put key value cache = record cache { pairs = put_first cache.capacity key 
 
 -- the cache with room for one more
 abbrev pub after_room : {T : Type 0} → Cached T → Cached T
-after_room cache = record cache { pairs = with_room cache.capacity cache.pairs }
+after_room cache = record cache { pairs = leaving_room cache.capacity cache.pairs }
 
 module _ {T : Type 0} (key : List ℕ) where
   -- there is a pair of the key, or none

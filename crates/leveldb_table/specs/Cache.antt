@@ -34,5 +34,5 @@ module _ {T : Type 0} where
       ]
 
   -- the pairs that leave room for one more: where there is none, the last one goes
-  abbrev pub with_room : ℕ → List (List ℕ × T) → List (List ℕ × T)
-  with_room capacity pairs = take (capacity - 1) pairs
+  abbrev pub leaving_room : ℕ → List (List ℕ × T) → List (List ℕ × T)
+  leaving_room capacity pairs = take (capacity - 1) pairs

@@ -104,8 +104,8 @@ impl<C: Cmp + Drop> Block<C> {
         Ok(self.contents.clone()?)
     }
 
-    /// The buffer that the block's bytes are in, to be used again, if nothing else shares them. It
-    /// takes no memory.
+    /// The buffer that the block's bytes are in, to be used again, if nothing else shares them.
+    /// Taking it needs no memory.
     pub(crate) fn into_buffer(self) -> Option<BytesMut>
         ensures { IfSome result (λ buffer. buffer.items ≡ self.contents) }
     {

@@ -7,7 +7,7 @@ ghost use Rattle.std.specs.Str.{bytes_eq};
 ghost use Rattle.std.specs.Map.{keys_of};
 ghost use Rattle.leveldb_base.specs.Error.{IsOutOfMemory};
 ghost use Rattle.leveldb_base.specs.declared.error.StatusCode.TheVariants.{NotSupported};
-ghost use Rattle.leveldb_table.specs.Cache.{value_of, others, put_first, with_room};
+ghost use Rattle.leveldb_table.specs.Cache.{value_of, others, put_first, leaving_room};
 
 use key::Key;
 use leveldb_base::error::{Result, StatusCode, err};
@@ -133,7 +133,7 @@ impl<T: Drop> Cache<T> {
     /// that the next `insert` displaces none.
     pub(crate) fn make_room(&mut self) -> Option<T>
         ensures { self.new ≡ record self.old
-            { pairs = with_room self.old.capacity self.old.pairs } }
+            { pairs = leaving_room self.old.capacity self.old.pairs } }
     {
         if self.count() < self.cap() {
             return None;

@@ -57,8 +57,9 @@ pub fn read_table_block<E: Env, C: Cmp + Drop>(
     read_block_into(alloc, cmp, env, file, compressors, location, buffer)
 }
 
-/// `read_table_block`, but the block is read into this buffer, if it fits. What is in it doesn't
-/// matter.
+/// `read_table_block`, but the stored bytes are read into this buffer, if it fits; else, and after
+/// an error, it is dropped. A block that is stored as it is stays there. What is in the buffer
+/// doesn't matter.
 pub(crate) fn read_block_into<E: Env, C: Cmp + Drop>(
     alloc: Global,
     cmp: C,
@@ -127,7 +128,8 @@ pub fn read_filter_block<E: Env, FP: FilterPolicy + Drop>(
 }
 
 /// What the bytes that are stored under this id are decoded to. Those of a block that is stored as
-/// it is stay where they are.
+/// it is stay where they are. `NotSupported` for an id without a compressor; a code of the
+/// compressor's own, and no other, where it fails for these bytes; or out of memory.
 pub(crate) fn decoded(
     alloc: Global,
     compressors: &CompressorList,
@@ -190,8 +192,8 @@ pub(crate) fn checked_id(bytes: &[u8], size: usize) -> Option<u8>
     Some(stored[size])
 }
 
-// The buffer, emptied, if it has room for `size` bytes and for no more than twice as many; else one
-// without room.
+// The buffer, emptied, if it has room for `size` bytes and for no more than twice as many, not
+// counting what its allocation has beyond the bytes that were ever used; else one without room.
 fn fitting(alloc: Global, mut buffer: BytesMut, size: usize) -> BytesMut
     ensures items { result.items ≡ [] }
     ensures spare { result.spare ≤ size + size }
@@ -206,7 +208,8 @@ fn fitting(alloc: Global, mut buffer: BytesMut, size: usize) -> BytesMut
 
 /// `size` bytes of a file from `offset` on, which this part of a table has; `Corruption` where the
 /// file ends before. They are read into this buffer, if it has room for them and for no more than
-/// twice as many; else it takes less memory than four times what the file gave, and two steps.
+/// twice as many. Else it is dropped, and the new one takes less memory than four times what the
+/// file gave, and two steps.
 pub(crate) fn read_bytes<E: Env>(
     alloc: Global,
     env: &mut E,

@@ -52,8 +52,8 @@ fn check_finds<E: Env, FP: FilterPolicy>(
     kept: &mut Vec<(usize, Bytes)>,
 ) -> Result<()> {
     let mut key_buffers = KeyBuffers::new(rt.alloc());
-    for step in 0..3 * COUNT {
-        let number = step * 37 % COUNT;
+    for step in 0..3 * pairs.len() {
+        let number = step * 37 % pairs.len();
         let (key, value) = pairs[number];
         let Some(found) = reader.find(rt.alloc(), key, &mut key_buffers)? else {
             panic!(rt; "no pair of {key:?}");
@@ -143,4 +143,78 @@ fn reused_under_a_compressor(rt: HostRuntime) -> Result<()> {
     let mut options = compressed(rt.alloc())?;
     options.block_size = 1;
     check_with_caches(&rt, &mut MemEnv::new(rt.alloc()), &options)
+}
+
+/// So many bytes, which rise by this step.
+fn bytes_by(alloc: Global, count: usize, step: usize) -> Result<Vec<u8>> {
+    let mut bytes = Vec::new(alloc);
+    for at in 0..count {
+        bytes.push((at * step % 251) as u8)?;
+    }
+    Ok(bytes)
+}
+
+/// Two blocks of more than a megabyte, by turns in a cache for one, by whole reads and in pieces.
+#[test]
+fn reused_large_blocks(rt: HostRuntime) -> Result<()> {
+    let first = bytes_by(rt.alloc(), 1_300_000, 7)?;
+    let second = bytes_by(rt.alloc(), 1_200_000, 3)?;
+    let pairs: [Given<'_>; 2] = [(b"a", &first), (b"b", &second)];
+    let mut env = MemEnv::new(rt.alloc());
+    check_with_cache(&rt, &mut env, &unfiltered(1), &pairs, 1)?;
+    let mut pieces = ShortReads::at_most(700_000, MemEnv::new(rt.alloc()));
+    check_with_cache(&rt, &mut pieces, &unfiltered(1), &pairs, 1)
+}
+
+/// Looks up each key once the file is cut to so many bytes. Returns how many aren't read.
+fn lost_by_cut(
+    rt: &(impl Abort + AllocGlobal),
+    opened: &mut Opened,
+    cache: &mut BlockCache<DefaultCmp>,
+    bytes: &[u8],
+    pairs: &[Given<'_>],
+) -> Result<usize> {
+    drop(file_of(&mut opened.env, bytes)?);
+    let compressors = CompressorList::default();
+    let mut reader = opened.reader(cache, &compressors);
+    let mut key_buffers = KeyBuffers::new(rt.alloc());
+    let mut lost = 0;
+    for (key, value) in pairs {
+        match reader.find(rt.alloc(), key, &mut key_buffers) {
+            Ok(found) => {
+                assert!(rt;
+                    found.is_some_and(|found| found.as_slice() == *value),
+                    "of {key:?}"
+                );
+            }
+            Err(status) => {
+                assert!(rt;
+                    status.code == StatusCode::Corruption,
+                    "of {key:?}: {status}"
+                );
+                lost += 1;
+            }
+        }
+    }
+    Ok(lost)
+}
+
+/// A file that is cut within a block, which is read into a buffer that has whole ones of others.
+#[test]
+fn reused_after_a_cut(rt: HostRuntime) -> Result<()> {
+    let (keys, values) = (keys(rt.alloc())?, values(rt.alloc())?);
+    let pairs = pairs_of(rt.alloc(), &keys, &values)?;
+    let bytes = table_of(&rt, &unfiltered(1), &pairs)?;
+    for kept in (0..bytes.len()).step_by(997) {
+        let mut cache = Cache::new(rt.alloc(), 3)?;
+        let mut opened = Opened::new(&rt, &mut cache, &pairs)?;
+        let whole = lost_by_cut(&rt, &mut opened, &mut cache, &bytes, &pairs)?;
+        assert!(rt; whole == 0);
+        let lost = lost_by_cut(&rt, &mut opened, &mut cache, &bytes[..kept], &pairs)?;
+        assert!(rt;
+            0 < lost || bytes.len() < kept + 2000,
+            "cut to {kept} bytes"
+        );
+    }
+    Ok(())
 }

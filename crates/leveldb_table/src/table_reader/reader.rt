@@ -3,7 +3,7 @@
 ghost use Rattle.std.specs.Prelude.{IfErr, IfOk, IfSome, ◌≡◌};
 ghost use Rattle.leveldb_base.specs.Error.{IsOutOfMemory};
 ghost use Rattle.leveldb_table.specs.BlockCache.{IsCachedAt, cache_key};
-ghost use Rattle.leveldb_table.specs.Cache.{looked_for, with_room};
+ghost use Rattle.leveldb_table.specs.Cache.{looked_for, leaving_room};
 
 use super::{KeyBuffers, Table, TableCore};
 use crate::block::Block;
@@ -69,8 +69,9 @@ impl<E: Env, C: Cmp + Copy + Drop, FP: FilterPolicy> TableReader<'_, E, C, FP> {
     }
 
     /// The block at a handle, from the cache or from the file; that is put into the cache then, if
-    /// `fills` says so. Where it takes another block's place there, it is read into its buffer, if
-    /// that fits; an error may leave the place empty.
+    /// `fills` says so. Where the cache is full, the block that was used least recently is dropped
+    /// before the read, and this one is read into its buffer, if that fits. So one place is empty
+    /// after an error, and where the cache had a block of another size at this offset.
     pub(crate) fn read_block(
         &mut self,
         alloc: Global,
@@ -102,11 +103,11 @@ impl<E: Env, C: Cmp + Copy + Drop, FP: FilterPolicy> TableReader<'_, E, C, FP> {
     }
 }
 
-// Makes room in the cache for a block, and returns the buffer of the one that went, if nothing else
-// has its bytes; else one without room.
+// Makes room in the cache for a block, and returns the buffer of the one that was dropped for it, if
+// nothing else shares its bytes; else one without room.
 fn buffer_for_next<C: Cmp + Drop>(alloc: Global, cache: &mut BlockCache<C>) -> BytesMut
     ensures { cache.new ≡ record cache.old
-        { pairs = with_room cache.old.capacity cache.old.pairs } }
+        { pairs = leaving_room cache.old.capacity cache.old.pairs } }
 {
     match cache.make_room() {
         Some(held) => held.block.into_buffer().unwrap_or(BytesMut::new(alloc)),
