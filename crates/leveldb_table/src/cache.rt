@@ -1,10 +1,11 @@
 //! Caches: values under keys of 16 bytes, as many as there is room for, of which the least
 //! recently used goes first.
 // LevelDB: util/cache.cc
-ghost use Rattle.std.specs.Prelude.{◌≡◌, ◌↔◌, ◌+◌, ◌^◌, ◌<◌, ◌≤◌, [], length, None, Some, nat_eq, IfOk, IfErr, OnErr, OnOk, IsErrAnd, IsTrue, option_copied};
+ghost use Rattle.std.specs.Prelude.{◌≡◌, ◌↔◌, ◌+◌, ◌^◌, ◌<◌, ◌≤◌, [], length, None, Some, nat_eq, IfOk, IfErr, OnErr, OnOk, IsErrAnd, IsTrue, IfSome, IfNone, option_copied, option_map};
 ghost use Rattle.std.specs.List.{IsDistinct};
 ghost use Rattle.std.specs.Str.{bytes_eq};
 ghost use Rattle.std.specs.Map.{keys_of};
+ghost use Rattle.lru.specs.LruCache.{last_entry};
 ghost use Rattle.leveldb_base.specs.Error.{IsOutOfMemory};
 ghost use Rattle.leveldb_base.specs.declared.error.StatusCode.TheVariants.{NotSupported};
 ghost use Rattle.leveldb_table.specs.Cache.{value_of, others, put_first, leaving_room};
@@ -132,10 +133,13 @@ impl<T: Drop> Cache<T> {
     /// Takes out the value that was used least recently, where there is no room for one more, so
     /// that the next `insert` displaces none.
     pub(crate) fn make_room(&mut self) -> Option<T>
-        ensures { self.new ≡ record self.old
+        ensures pairs { self.new ≡ record self.old
             { pairs = leaving_room self.old.capacity self.old.pairs } }
+        ensures some { IfSome result (λ value.
+            option_map (λ pair. pair.1) (last_entry self.old.pairs) ≡ Some value) }
+        ensures none { IfNone result (self.new ≡ self.old) }
     {
-        if self.count() < self.cap() {
+        if !self.keeps || self.recent.len() < self.recent.cap().get() {
             return None;
         }
         let (_, value) = self.recent.pop_lru()?;
