@@ -1,4 +1,5 @@
 """Where the programs are that other tools run."""
+import os
 import pathlib
 import subprocess
 import sys
@@ -15,6 +16,11 @@ def told(call):
 def path_of(name):
     """Returns the path of a program of this name, which may not be built yet."""
     return pathlib.Path(told(f"program_of {name}"))
+
+
+def timed():
+    """Returns the path of the db_bench that is timed: the one that OURS names (tools/fastbench), or that of ./bench."""
+    return pathlib.Path(os.environ["OURS"]) if "OURS" in os.environ else path_of("db_bench")
 
 
 def ready(name):
