@@ -86,26 +86,12 @@ fn check_with_cache<E: Env, FP: FilterPolicy + Copy + Drop>(
     };
     let mut kept = Vec::new(rt.alloc());
     check_finds(rt, &mut reader, pairs, &mut kept)?;
-    check_walks_over(rt, &mut reader, pairs)?;
+    check_walks(rt, &mut reader, pairs)?;
     check_finds(rt, &mut reader, pairs, &mut kept)?;
     for (number, value) in &kept {
         assert!(rt; value.as_slice() == pairs[*number].1, "kept of {number}");
     }
     Ok(())
-}
-
-/// Walks over a table of these pairs, forward and turning at each.
-fn check_walks_over<E: Env, FP: FilterPolicy>(
-    rt: &(impl Abort + AllocGlobal),
-    reader: &mut TableReader<'_, E, DefaultCmp, FP>,
-    pairs: &[Given<'_>],
-) -> Result<()> {
-    let (env, cache) = (&mut *reader.env, &mut *reader.cache);
-    let mut it = reader
-        .table
-        .iter(rt.alloc(), env, cache, reader.compressors)?;
-    check_forward(rt, &mut it, pairs)?;
-    check_turns(rt, &mut it, pairs)
 }
 
 /// Looks up keys and walks over tables with caches of no, one, three and ten blocks.

@@ -103,8 +103,8 @@ impl<E: Env, C: Cmp + Copy + Drop, FP: FilterPolicy> TableReader<'_, E, C, FP> {
     }
 }
 
-// Makes room in the cache for a block, and returns the buffer of the one that was dropped for it, if
-// nothing else shares its bytes; else one without room.
+// Makes room in the cache for a block, and returns the buffer of the one that was dropped for it,
+// if nothing else shares its bytes; else one without room.
 fn buffer_for_next<C: Cmp + Drop>(alloc: Global, cache: &mut BlockCache<C>) -> BytesMut
     ensures { cache.new ≡ record cache.old
         { pairs = leaving_room cache.old.capacity cache.old.pairs } }
