@@ -1,8 +1,10 @@
-use Rattle.std.proofs.Common.{◌∙◌, ap, refl, rules, subst, sym}
+use Rattle.std.proofs.Common.{◌≡◌, ◌∙◌, None, Some, ap, refl, rules, subst, sym}
 use Rattle.std.proofs.lemmas.Result.{err_from_is_err_and}
 use Rattle.leveldb_store.proofs.Compactions.CompactPickedLemmas.{compacted_once, compacted_tidied}
 use Rattle.leveldb_store.proofs.Compactions.CompactedLemmas.{compacts_then, nothing_compacted}
 use Rattle.leveldb_store.proofs.Compactions.CompactsOnceLemmas.{compacted_inputs, compacted_none, none_compacted}
+use Rattle.std.specs.Prelude.{IfSome}
+use Rattle.leveldb_store.specs.Compactions.Compact.{EndsByRemoval, LogsCompaction}
 use Rattle.leveldb_store.specs.Keeping.KeptEntries.{CompactsOnceAtMost}
 use Rattle.leveldb_store.specs.Keeping.OpenStore.{OpenStoreValue}
 use Rattle.leveldb_store.specs.Writing.Room.{TidiesUp}
@@ -36,8 +38,8 @@ returns-in_default-clause-compacts g c = record {
 
 pub returns-in_default-clause-does : goal.returns-in_default-clause-does
 returns-in_default-clause-does g c = record {
-  logged = search rules;
-  removes = search rules;
+  logged = rw c.in_default.is tt;
+  removes = rw c.in_default.is tt;
   none = λ is. (refl, refl, refl, refl);
   err = tt;
 }
@@ -49,17 +51,22 @@ returns-in_err-compact-clause-does g c =
     (record {
       logged = tt;
       removes = tt;
-      none = search rules;
+      none = λ none. let never : Some c.in-Some.compaction ≡ None = sym c.in-Some.is ∙ none in absurd (cc never);
       err = search rules;
     })
 
 pub returns-clause-does : goal.returns-clause-does
-returns-clause-does g c = record {
-  logged = search rules;
-  removes = search rules;
-  none = search rules;
-  err = tt;
-}
+returns-clause-does g c =
+    let old = c.args.self.now in
+    let new = c.compact.new.self in
+    let order = g.C.Cmp.cmp old.cmp in
+    let logged = subst (λ cmp. LogsCompaction cmp c.in-Some.compaction old new) c.requires.order c.in_ok-compact.ensures.compacts.logged.0 in
+    record {
+      logged = subst (λ picked. IfSome picked (λ it. LogsCompaction order it old new)) (sym c.in-Some.is) logged;
+      removes = subst (λ picked. IfSome picked (λ it. EndsByRemoval g.E.Env new c.tidy_up.new.env)) (sym c.in-Some.is) (c.tidy_up.result, (c.compact.new.env, c.tidy_up.ensures.removes));
+      none = λ none. let never : Some c.in-Some.compaction ≡ None = sym c.in-Some.is ∙ none in absurd (cc never);
+      err = tt;
+    }
 
 -- ---- what is lost
 
@@ -89,3 +96,21 @@ returns-clause-keeps g c = record {
   kept = tt;
   breaks = λ unbroken. tt;
 }
+
+pub returns-in_default-clause-log : goal.returns-in_default-clause-log
+returns-in_default-clause-log g c = refl
+
+pub returns-in_err-compact-clause-log : goal.returns-in_err-compact-clause-log
+returns-in_err-compact-clause-log g c = refl
+
+pub returns-clause-log : goal.returns-clause-log
+returns-clause-log g c = c.tidy_up.ensures.log
+
+pub compact-requires-clause-usable : goal.compact-requires-clause-usable
+compact-requires-clause-usable g c = c.requires.usable
+
+pub compact-requires-clause-order : goal.compact-requires-clause-order
+compact-requires-clause-order g c = c.requires.order
+
+pub compact-requires-clause-none_waits : goal.compact-requires-clause-none_waits
+compact-requires-clause-none_waits g c = c.requires.none_waits
