@@ -1,4 +1,4 @@
-use Rattle.std.proofs.Common.{rules, ◌≡◌, ◌++◌, ◌∷◌, [], ◌-◌, ◌≤◌, ℕ, Ok, Err, ap, arith, map, take, refl, sym, subst, ◌+◌, ◌∙◌}
+use Rattle.std.proofs.Common.{◌≡◌, ◌++◌, ◌∷◌, [], ◌-◌, ◌≤◌, ℕ, Ok, Err, ap, ap₂, arith, map, take, refl, sym, subst, ◌+◌, ◌∙◌}
 use Rattle.std.proofs.lemmas.List.{map-append, take_all}
 use Rattle.leveldb_base.specs.contracts.cmp.internal.InternalKeyCmpCmp.TheImpl.{ghosts as key_order}
 use Rattle.leveldb_disks.specs.RecordLaws.{record_only_now, record_counts_now}
@@ -25,7 +25,7 @@ pub loop-command-init : goal.loop-command-init
 loop-command-init g c =
     let none : c.reserve.new.self.items ≡ [] = c.reserve.ensures.items ∙ c.new-replies.ensures.items in (
       c.in-Ok.ensures.time refl,
-      search rules,
+      omega (arith, c.in_ok-reserve.ensures.ok),
       [],
       subst (λ items. Given (moment_of c.args.env.now) items []) (sym none) refl,
       subst (λ items. LivesSoFar g.row.C.Denot g.row.FP.Denot (key_order g.row.C g.C.UserCmp g.C.UserCmp-dict g.C.Cmp g.C.Cmp-dict) ghosts (format_of g.C.Cmp g.FP.FilterPolicy (compressors g.dyn-2).codings) c.args.name.now c.args.env.now (opening_of g.C.Cmp g.FP.FilterPolicy (compressors g.dyn-2).codings c.args.options) [] items (map snapshot_of c.new-taken.result.items) [] c.in-Ok.engine c.open.new.env) (sym none)
@@ -43,7 +43,8 @@ overflow_sub-moment g c =
     omega (arith, so_far.0, later, c.moment.ensures, c.moment-start.ensures)
 
 pub unwrap-requires : goal.unwrap-requires
-unwrap-requires g c = search rules
+unwrap-requires g c =
+    c.push.ensures.succeeds (omega (arith, c.loop-command.invariant.1, c.loop-command-test.true))
 
 pub loop-command-preserved : goal.loop-command-preserved
 loop-command-preserved g c =
@@ -51,7 +52,8 @@ loop-command-preserved g c =
     let command = c.command-item.result in
     let reply = c.answer-reply.result in
     let told = c.moment.result - c.moment-start.result in
-    let pushed : c.push.new.self.items ≡ c.loop-command.replies.items ++ (told, reply) ∷ [] = search rules in
+    let pushed : c.push.new.self.items ≡ c.loop-command.replies.items ++ (told, reply) ∷ [] =
+    rw c.unwrap.ensures at c.push.ensures.items in
     let step = calls_step ghosts _ c.loop-command.engine c.loop-command.env c.loop-command.taken.items reply c.answer-reply.new.engine
     c.answer-reply.new.env c.answer-reply.new.taken.items command c.answer-reply.ensures in
     let more = lives_more g.row.C.Denot g.row.FP.Denot _ ghosts (format_of g.C.Cmp g.FP.FilterPolicy (compressors g.dyn-2).codings) (record_only_now, record_counts_now) refl c.args.name.now c.args.env.now c.loop-command.env c.answer-reply.new.env (opening_of g.C.Cmp g.FP.FilterPolicy (compressors g.dyn-2).codings c.args.options)
@@ -62,12 +64,13 @@ loop-command-preserved g c =
     let told_now : map (λ (r : ℕ × Reply). r.1) c.push.new.self.items ≡ map (λ (r : ℕ × Reply). r.1) c.loop-command.replies.items ++ reply ∷ [] =
     ap (map (λ (r : ℕ × Reply). r.1)) pushed ∙ map-append (λ (r : ℕ × Reply). r.1) c.loop-command.replies.items ((told, reply) ∷ []) in
     let behind = commands_up_to c.args.commands.now c.loop-command.command-index command c.loop-command-test.true c.command-item.is in
-    let is : told ≡ moment_of c.answer-reply.new.env - moment_of c.args.env.now = search rules in
+    let is : told ≡ moment_of c.answer-reply.new.env - moment_of c.args.env.now =
+    ap₂ (λ now start. now - start) c.moment.ensures c.moment-start.ensures in
     let later : moment_of c.loop-command.env ≤ moment_of c.answer-reply.new.env =
     calls_time ghosts _ c.loop-command.engine c.loop-command.env c.loop-command.taken.items reply c.answer-reply.new.engine
     c.answer-reply.new.env c.answer-reply.new.taken.items command c.answer-reply.ensures refl in (
       omega (arith, so_far.0, later),
-      search rules,
+      omega (arith, so_far.1, c.loop-command-test.true, c.push.ensures.upper_bound, c.push.ensures.capacity),
       so_far.2 ++ moment_of c.answer-reply.new.env ∷ [],
       subst (λ items. Given (moment_of c.args.env.now) items (so_far.2 ++ moment_of c.answer-reply.new.env ∷ [])) (sym pushed)
           (given_more (moment_of c.args.env.now) c.loop-command.replies.items so_far.2 (moment_of c.answer-reply.new.env) told reply so_far.3 is),

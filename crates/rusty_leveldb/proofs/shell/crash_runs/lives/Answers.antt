@@ -1,6 +1,6 @@
 -- Each life joins those before it, with its crash; a refusal is that of a life's memory or of a
 -- crash.
-use Rattle.std.proofs.Common.{rules, vec_len, vec_capacity, ◌<◌, append-nil, append_assoc, ◌≡◌, ◌+◌, ◌++◌, ◌∷◌, inl, inr, ⊎_elim, [], length, refl, sym, subst, ◌∙◌, ap, arith}
+use Rattle.std.proofs.Common.{rules, vec_len, vec_capacity, ◌<◌, append-nil, append_assoc, ◌≡◌, ◌+◌, ◌++◌, ◌∷◌, inl, inr, ⊎_elim, [], length, refl, sym, subst, ◌∙◌, ap, ap₂, arith}
 use Rattle.std.proofs.lemmas.List.{nil_from_length}
 use Rattle.std.proofs.lemmas.Result.{err_from_is_err_and}
 use Rattle.leveldb_base.specs.contracts.cmp.internal.InternalKeyCmpCmp.TheImpl.{ghosts as key_order}
@@ -37,11 +37,11 @@ loop-life-preserved g c =
     let so_far = c.loop-life.invariant in
     let life = c.in-Some.life in
     let report = c.in_ok-report.report in
-    let pushed : c.push.new.self.items ≡ c.loop-life.reports.items ++ report ∷ [] = search rules in
+    let pushed : c.push.new.self.items ≡ c.loop-life.reports.items ++ report ∷ [] = rw c.unwrap.ensures at c.push.ensures.items in
     let is : IsLifeOn ghosts g.C.Cmp g.FP.FilterPolicy (compressors g.dyn-2).codings (key_order g.row.C g.C.UserCmp g.C.UserCmp-dict g.C.Cmp g.C.Cmp-dict) (key_policy g.row.FP g.FP.FilterPolicy g.FP.FilterPolicy-dict) c.args.name.now c.loop-life.env life report c.live.new.env = record {
       from = c.fail.new.self;
       same = c.fail.ensures.same;
-      failing = search rules;
+      failing = ap₂ (λ nth done. (nth, done)) c.fail.ensures.nth c.fail.ensures.done ∙ c.unwrap_or-nth.ensures;
       life_is = subst (λ commands. IsAlwaysLife ghosts c.args.name.now c.fail.new.self (opening_of g.C.Cmp g.FP.FilterPolicy (compressors g.dyn-2).codings c.in-Some.life.options) commands report c.live.new.env) c.deref.ensures.value c.in_ok-report.ensures.life;
       calls = subst (λ commands. LivesByCalls ghosts (choices_of g.C.Cmp g.FP.FilterPolicy (key_order g.row.C g.C.UserCmp g.C.UserCmp-dict g.C.Cmp g.C.Cmp-dict) (key_policy g.row.FP g.FP.FilterPolicy g.FP.FilterPolicy-dict) (compressors g.dyn-2).codings) c.args.name.now c.in-Some.life.options (opening_of g.C.Cmp g.FP.FilterPolicy (compressors g.dyn-2).codings c.in-Some.life.options) commands c.fail.new.self report c.live.new.env) c.deref.ensures.value c.in_ok-report.ensures.calls;
     } in
@@ -50,7 +50,7 @@ loop-life-preserved g c =
       | in-Some-moment+in_ok-env w ↦ next_crash IsCrash (moment_of c.loop-life.env) c.moment-start.result w.in-Some-moment.moment c.in-Some.life.moment c.in-Some.life.pick c.live.new.env w.in_ok-env.env c.match-moment.env w.in-Some-moment.is c.moment-start.ensures w.env-is w.in_ok-env.ensures.crash
       | in_default w ↦ next_same IsCrash (moment_of c.loop-life.env) c.in-Some.life.moment c.in-Some.life.pick c.live.new.env c.match-moment.env w.in_default.is w.env-is
     ]) in (
-      let one_more = ap length c.in-Some.ensures.steps.0 in let pushed_len = ap length pushed in search rules,
+      let one_more = ap length c.in-Some.ensures.steps.0 in omega (arith, one_more, so_far.0, c.push.ensures.upper_bound, c.push.ensures.capacity),
       append_assoc c.loop-life.yielded (life ∷ []) c.next.new.self.rest.items ∙ ap (λ rest. c.loop-life.yielded ++ rest) (sym c.in-Some.ensures.steps.0) ∙ so_far.1,
       record { first = so_far.2.first; empty = so_far.2.empty; fresh = so_far.2.fresh; reports_are = rw pushed more },
     )
@@ -69,7 +69,7 @@ returns-in_err-env g c =
     let is : IsLifeOn ghosts g.C.Cmp g.FP.FilterPolicy (compressors g.dyn-2).codings (key_order g.row.C g.C.UserCmp g.C.UserCmp-dict g.C.Cmp g.C.Cmp-dict) (key_policy g.row.FP g.FP.FilterPolicy g.FP.FilterPolicy-dict) c.args.name.now c.loop-life.env c.in-Some.life c.in_ok-report.report c.live.new.env = record {
       from = c.fail.new.self;
       same = c.fail.ensures.same;
-      failing = search rules;
+      failing = ap₂ (λ nth done. (nth, done)) c.fail.ensures.nth c.fail.ensures.done ∙ c.unwrap_or-nth.ensures;
       life_is = subst (λ commands. IsAlwaysLife ghosts c.args.name.now c.fail.new.self (opening_of g.C.Cmp g.FP.FilterPolicy (compressors g.dyn-2).codings c.in-Some.life.options) commands c.in_ok-report.report c.live.new.env) c.deref.ensures.value c.in_ok-report.ensures.life;
       calls = subst (λ commands. LivesByCalls ghosts (choices_of g.C.Cmp g.FP.FilterPolicy (key_order g.row.C g.C.UserCmp g.C.UserCmp-dict g.C.Cmp g.C.Cmp-dict) (key_policy g.row.FP g.FP.FilterPolicy g.FP.FilterPolicy-dict) (compressors g.dyn-2).codings) c.args.name.now c.in-Some.life.options (opening_of g.C.Cmp g.FP.FilterPolicy (compressors g.dyn-2).codings c.in-Some.life.options) commands c.fail.new.self c.in_ok-report.report c.live.new.env) c.deref.ensures.value c.in_ok-report.ensures.calls;
     } in

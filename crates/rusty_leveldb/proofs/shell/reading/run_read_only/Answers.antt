@@ -1,5 +1,5 @@
 -- No memory before it begins, a store that isn't opened, and the replies one after another.
-use Rattle.std.proofs.Common.{rules, ◌≡◌, ◌++◌, ◌∷◌, [], length, take, drop, refl, ◌∙◌, ap, arith, append_assoc, length-append}
+use Rattle.std.proofs.Common.{rules, ◌≡◌, ◌++◌, ◌∷◌, [], length, take, drop, refl, ◌∙◌, ap, arith, append-nil, append_assoc, length-append, sym}
 use Rattle.std.proofs.Math.Seq.{drop-length, drop-append_seam}
 use Rattle.std.proofs.lemmas.List.{take_all}
 use Rattle.std.proofs.lemmas.Result.{err_from_is_err_and}
@@ -33,9 +33,9 @@ returns-in_err-engine-clause-reads g c =
 
 pub loop-command-init : goal.loop-command-init
 loop-command-init g c = (
-  search rules,
+  omega (arith, c.in_ok-reserve.ensures.ok),
   [],
-  search rules,
+  c.reserve.ensures.items ∙ sym (append-nil c.args.replies.now.items),
   refl,
   so_far_first _ g.E.Env (format_of g.C.Cmp g.FP.FilterPolicy (compressors g.dyn-2).codings)
       c.in_ok-engine.engine c.open.new.env,
@@ -43,21 +43,23 @@ loop-command-init g c = (
 )
 
 pub unwrap-requires : goal.unwrap-requires
-unwrap-requires g c = search rules
+unwrap-requires g c =
+    c.push.ensures.succeeds (omega (arith, c.loop-command.invariant.0, c.loop-command-test.true))
 
 pub loop-command-preserved : goal.loop-command-preserved
 loop-command-preserved g c =
     let so_far = c.loop-command.invariant in
     let command = c.command-item.result in
     let reply = c.answer.result in
-    let pushed : c.push.new.self.items ≡ c.loop-command.replies.items ++ reply ∷ [] = search rules in
+    let pushed : c.push.new.self.items ≡ c.loop-command.replies.items ++ reply ∷ [] =
+    rw c.unwrap.ensures at c.push.ensures.items in
     let more = so_far_more _ g.E.Env
     (format_of g.C.Cmp g.FP.FilterPolicy (compressors g.dyn-2).codings) _ _
     (take c.loop-command.command-index c.args.commands.now) so_far.1 c.loop-command.engine
     c.loop-command.env command reply c.answer.new.engine c.answer.new.env so_far.4 c.answer.ensures in
     let behind = commands_up_to c.args.commands.now c.loop-command.command-index command
     c.loop-command-test.true c.command-item.is in (
-      search rules,
+      omega (arith, so_far.0, c.loop-command-test.true, c.push.ensures.upper_bound, c.push.ensures.capacity),
       so_far.1 ++ reply ∷ [],
       pushed ∙ ap (λ items. items ++ reply ∷ []) so_far.2
           ∙ append_assoc c.args.replies.now.items so_far.1 (reply ∷ []),

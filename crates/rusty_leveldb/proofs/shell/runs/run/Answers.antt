@@ -1,4 +1,4 @@
-use Rattle.std.proofs.Common.{rules, ◌≡◌, ◌++◌, ◌∷◌, [], length, map, take, drop, refl, ◌∙◌, ap, arith, append_assoc, length-append, inl, inr, Ok, Err}
+use Rattle.std.proofs.Common.{rules, ◌≡◌, ◌++◌, ◌∷◌, [], length, map, take, drop, refl, ◌∙◌, ap, arith, append-nil, append_assoc, length-append, sym, inl, inr, Ok, Err}
 use Rattle.std.proofs.Math.Seq.{drop-length, drop-append_seam}
 use Rattle.std.proofs.lemmas.List.{take_all}
 use Rattle.std.proofs.lemmas.Result.{err_from_is_err_and}
@@ -42,9 +42,9 @@ returns-in_err-engine-clause-runs g c =
 pub loop-command-init : goal.loop-command-init
 loop-command-init g c = (
   search rules,
-  search rules,
+  omega (arith, c.in_ok-reserve.ensures.ok),
   [],
-  search rules,
+  c.reserve.ensures.items ∙ sym (append-nil c.args.replies.now.items),
   refl,
   rw (c.new-taken.ensures.items) (play_first g.row.C.Denot g.row.FP.Denot _ g.E.Env (format_of g.C.Cmp g.FP.FilterPolicy (compressors g.dyn-2).codings) (g.met.E.Env.only_now, g.met.E.Env.counts_now) c.args.name.now c.args.env.now c.open.new.env (opening_of g.C.Cmp g.FP.FilterPolicy (compressors g.dyn-2).codings c.args.opt) c.in_ok-engine.engine c.in_ok-engine.ensures.step),
   c.in_ok-engine.ensures.time,
@@ -52,14 +52,15 @@ loop-command-init g c = (
 )
 
 pub unwrap-requires : goal.unwrap-requires
-unwrap-requires g c = search rules
+unwrap-requires g c =
+    c.push.ensures.succeeds (omega (arith, c.loop-command.invariant.1, c.loop-command-test.true))
 
 pub loop-command-preserved : goal.loop-command-preserved
 loop-command-preserved g c =
     let so_far = c.loop-command.invariant in
     let command = c.command-item.result in
     let reply = c.answer.result in
-    let pushed : c.push.new.self.items ≡ c.loop-command.replies.items ++ reply ∷ [] = search rules in
+    let pushed : c.push.new.self.items ≡ c.loop-command.replies.items ++ reply ∷ [] = rw c.unwrap.ensures at c.push.ensures.items in
     let engine = c.loop-command.engine in
     let env = c.loop-command.env in
     let taken = c.loop-command.taken.items in
@@ -73,7 +74,7 @@ loop-command-preserved g c =
     (take c.loop-command.command-index c.args.commands.now) so_far.2 (map snapshot_of c.loop-command.taken.items) (map snapshot_of c.answer.new.taken.items) c.loop-command.engine c.answer.new.engine command reply so_far.5 step in
     let behind = commands_up_to c.args.commands.now c.loop-command.command-index command c.loop-command-test.true c.command-item.is in (
       omega (arith, so_far.0, later),
-      search rules,
+      omega (arith, so_far.1, c.loop-command-test.true, c.push.ensures.upper_bound, c.push.ensures.capacity),
       so_far.2 ++ reply ∷ [],
       pushed ∙ ap (λ items. items ++ reply ∷ []) so_far.3 ∙ append_assoc c.args.replies.now.items so_far.2 (reply ∷ []),
       omega (arith, length-append so_far.2 (reply ∷ []), so_far.4),
