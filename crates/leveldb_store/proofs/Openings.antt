@@ -12,6 +12,7 @@ mod OpeningEndLemmas
 mod OpeningKeptLemmas
 mod OpeningMadeLemmas
 mod OpeningNumbersLemmas
+mod FoundFilesLemmas
 mod OpeningSameLemmas
 mod TableSizesLemmas
 mod OpeningRecoveredLemmas

@@ -32,6 +32,10 @@ module _ {C : Type 0} (value : OpenStoreValue C) (keeps : Bool) where
     room = o.room;
     tables = o.tables;
     manifest = o.manifest;
+    live = o.live;
+    replayed = λ modelled meaning agrees edits has.
+        let it = o.replayed modelled meaning agrees edits has in
+        record { tables = it.tables; each = it.each; entries = it.entries };
     keeps = o.keeps;
     opens = λ modelled meaning agrees contents sound.
         let it = o.opens modelled meaning agrees contents sound in

@@ -1,19 +1,22 @@
 -- A store that was recovered is opened: its logs are replayed, the log to write is opened, and an
 -- edit is logged where one is wanted.
-use Rattle.std.specs.Prelude.{◌≢◌, All, Contains, IfSome, IsTrue, OnOk, Result, Ok, Err, max}
+use Rattle.std.specs.Prelude.{◌≢◌, All, Contains, IfSome, IsTrue, OnOk, Result, Ok, Err, max, IsSome, fold}
+use Rattle.std.specs.Option.{option_map}
 use Rattle.std.proofs.Common.{◌||◌, ◌≡◌, ◌⊎◌, ◌∙◌, ◌<◌, ◌≤◌, ◌^◌, inl, inr, ⊎_elim, ℕ, Bool, true, false, List, Option, None, Some, ap, arith, refl, subst, sym}
 use Rattle.std.proofs.lemmas.List.Elements.{All-contains, All-contains_itself, All-weaker}
 use Rattle.std.specs.Cmp.Lexicographic.{bytes_decides}
 use Rattle.leveldb_base.proofs.NamesLemmas.{made_name, made_paths_apart}
 use Rattle.leveldb_base.specs.Error.{IsOutOfMemory}
-use Rattle.leveldb_base.specs.History.{AreUpTo, Entry}
+use Rattle.leveldb_base.proofs.HistoryLemmas.{in_none}
+use Rattle.leveldb_base.specs.History.{AreUpTo, Entry, greatest}
+use Rattle.leveldb_base.specs.Types.{Pair}
 use Rattle.leveldb_base.specs.Names.{file_name}
 use Rattle.leveldb_base.specs.declared.cmp.Cmp.{Ghosts as CmpGhosts}
 use Rattle.leveldb_base.specs.declared.error.Status.{Status}
 use Rattle.leveldb_base.specs.declared.types.FileMetaData.{FileMetaData}
 use Rattle.leveldb_base.specs.declared.types.FileType.TheVariants.{Descriptor, Log, Table}
 use Rattle.leveldb_env.proofs.EnvLemmas.{Run-call, Run-mono, Run-trans, SameBut-created, SameBut-emptied, begun}
-use Rattle.leveldb_env.specs.Env.{BeforeOrAfter, Files, HasCause, Run, SameBut, SameLocks}
+use Rattle.leveldb_env.specs.Env.{BeforeOrAfter, Files, HasCause, Run, SameBut, SameLocks, bytes_of}
 use Rattle.leveldb_env.specs.WholeFiles.{IsLost, IsLostUnobserved}
 use Rattle.leveldb_env.specs.declared.env.Env.{Ghosts}
 use Rattle.leveldb_env.specs.declared.filter.FilterPolicy.{Ghosts as FilterGhosts}
@@ -23,14 +26,20 @@ use Rattle.leveldb_mem.specs.MemTable.{Kept, MemTableState, memory_of_entries}
 use Rattle.leveldb_files.specs.Stores.Contents.{Contents}
 use Rattle.leveldb_version_set.specs.Sets.CurrentFile.{temp_path}
 use Rattle.leveldb_version_set.specs.Sets.LogEdit.{LogEditResult}
-use Rattle.leveldb_version_set.specs.Engines.Opening.{tables_edit}
+use Rattle.leveldb_files.proofs.Stores.ManagedLemmas.{table_on}
+use Rattle.leveldb_files.specs.Levels.Levels.{LiveTable}
+use Rattle.leveldb_files.specs.Stores.Store.{HasTable, log_entries}
+use Rattle.leveldb_version.specs.Edits.FullEdit.{files_after, files_with}
+use Rattle.leveldb_version_set.specs.Engines.Opening.{IsMadeBefore, tables_edit}
 use Rattle.leveldb_files.specs.Stores.Paths.{IsFilePath, log_path, manifest_path, table_path}
 use Rattle.leveldb_files.specs.Steps.StoreSteps.{KeepsHistory}
 use Rattle.leveldb_files.specs.Edits.Edit.{Edit, NewFile}
 use Rattle.leveldb_version_set.specs.Sets.VersionSetValue.{AreFileNumbersUsedUp, ManifestState, OpenManifest, VersionSetValue, broken, in_use, unmade, with_number_given}
 use Rattle.leveldb_store.proofs.Logs.FoundLogsLemmas.{lacks_one_more}
 use Rattle.leveldb_store.proofs.Keeping.GivenNumbersLemmas.{given_later}
-use Rattle.leveldb_store.proofs.Openings.OpeningBytesLemmas.{log_bytes, logging_bytes, made_keys_bytes, made_tables_there}
+use Rattle.leveldb_store.proofs.Openings.OpeningBytesLemmas.{log_bytes, logging_bytes, made_above, made_keys_bytes, made_tables_there}
+use Rattle.leveldb_store.proofs.Openings.FoundFilesLemmas.{held_entries, made_with_each, still_with_each}
+use Rattle.leveldb_store.proofs.Reading.ViewListsLemmas.{pairwise_of}
 use Rattle.leveldb_store.proofs.Openings.OpeningEndLemmas.{IsOpenValue, edit_logged, log_spared, logged_manifest, logging_keeps, logging_spares, made_levels_fit, went_on}
 use Rattle.leveldb_store.proofs.Openings.OpeningFrontLemmas.{keeps_found_then}
 use Rattle.leveldb_store.proofs.Keeping.KeptBytesLemmas.{loses_at_tables, meanwhile_none, meanwhile_then, numbers_at_tables, numbers_still}
@@ -45,7 +54,7 @@ use Rattle.leveldb_store.specs.Logs.FoundLogs.{HasLogNotKept, LacksNumbersFor, L
 use Rattle.leveldb_store.specs.Keeping.KeptBytes.{HasNewNumbers, LosesNoBytesMeanwhile, TableNumbersAreBelow}
 use Rattle.leveldb_store.specs.Keeping.OpenStore.{AreInLevels, AreNumbersGiven, HasOwnManifest, OpenStoreValue}
 use Rattle.leveldb_store.specs.Openings.Opening.{SameButTables}
-use Rattle.leveldb_store.specs.Openings.OpeningSteps.{AreDamagedLogs, OpensToWrite, LogsIfWanted, MayBeWritten, OpensLog, ReplaysLogs, WasRecovered, WhyNotBegun, WhyNotReplayed, entries_to_write, files_to_write, made_files, number_to_write, set_to_write, size_to_write}
+use Rattle.leveldb_store.specs.Openings.OpeningSteps.{AreDamagedLogs, OpensToWrite, LogsIfWanted, MayBeWritten, OpensLog, ReplaysLogs, WasRecovered, WhyNotBegun, WhyNotReplayed, entries_to_write, files_to_write, made_files, number_to_write, set_to_write, size_to_write, AreLogs, HasReplayedLogs, HoldsLogs}
 use Rattle.leveldb_store.specs.Openings.OpensStore.{AreTablesThere, IsOpenedAs, IsTableThere, KeepsFound, SameBesideOwn}
 use Rattle.leveldb_store.proofs.Openings.TableSizesLemmas.{IsSized}
 use Rattle.leveldb_store.specs.Logs.ReplayLog.{HasCauseOr}
@@ -152,6 +161,8 @@ module _ {E F D FP : Type 0} (env : Ghosts E F) {order : CmpGhosts D} {filters :
     room = tt;
     tables = tt;
     manifest = tt;
+    live = tt;
+    replayed = tt;
     keeps = keeps;
     opens = λ modelled meaning agrees contents was. tt;
     others = spares;
@@ -562,6 +573,9 @@ module _ {E F D FP : Type 0} (env : Ghosts E F) {order : CmpGhosts D} {filters :
             pub given : AreNumbersGiven set4 set4.full.added
             pub levels : AreInLevels env.models_disk format.order set4.full.added
             pub tables : IsTrue env.models_disk → All (HasFile (env.observed e3).disk.files) set4.full.added
+            -- its files are those after the edit, or no log is left aside and they are as they were
+            pub files : (set4.full.added ≡ files_after (tables_edit N (made_files made)) set3.full.added)
+                ⊎ ((replay.leaves_log ≡ false) × (set4.full.added ≡ set3.full.added))
 
           ended_by : (b : Bool) → wanted ≡ b → LogsIfWanted env b N made set3 e2 (Ok done) set4 e3 → IsEnded
           ended_by true is logs =
@@ -589,6 +603,7 @@ module _ {E F D FP : Type 0} (env : Ghosts E F) {order : CmpGhosts D} {filters :
                     (λ (c : Contains set3.full.added file). All-contains (HasFile (env.observed e2).disk.files) set3.full.added file (live_there3 modelled) c)
                     (λ (c : Contains (made_files made) file). All-contains (HasFile (env.observed e2).disk.files) (made_files made) file (made_there3 modelled) c) which)
                     set4.full.added it.live);
+                files = inl it.files;
               }
           ended_by false is same =
               let on = may.goes_on (unwanted is).0 in
@@ -605,6 +620,7 @@ module _ {E F D FP : Type 0} (env : Ghosts E F) {order : CmpGhosts D} {filters :
                 levels = subst (λ (s : VersionSetValue). AreInLevels env.models_disk format.order s.full.added) (sym same.0) levels3;
                 tables = λ modelled. subst (λ e. All (HasFile (env.observed e).disk.files) set4.full.added) (sym same.1)
                     (subst (λ (s : VersionSetValue). All (HasFile (env.observed e2).disk.files) s.full.added) (sym same.0) (live_there3 modelled));
+                files = inr ((unwanted is).1, ap (λ (s : VersionSetValue). s.full.added) same.0);
               }
 
           is_ended : IsEnded
@@ -633,6 +649,82 @@ module _ {E F D FP : Type 0} (env : Ghosts E F) {order : CmpGhosts D} {filters :
               let most = replays.up_to entry (subst (λ es. Contains es entry) is c) in
               let last = is_ended.last ∙ ap (λ (s : VersionSetValue). s.last_sequence) opens.set ∙ last_to_write replay.used set2 ∙ ap (λ (s : VersionSetValue). s.last_sequence) set2_is in
               omega (arith, most, last)
+
+          -- a live file is live still
+          live_on : IsTrue env.models_disk → (file : NewFile) → Contains set.full.added file → Contains set4.full.added file
+          live_on modelled file c = ⊎_elim
+              (λ (more : set4.full.added ≡ files_after (tables_edit N (made_files made)) set3.full.added).
+              subst (λ files. Contains files file) (sym more) (still_with_each (made_files made) set3.full.added file apart before))
+              (λ (same : (replay.leaves_log ≡ false) × (set4.full.added ≡ set3.full.added)).
+              subst (λ files. Contains files file) (sym same.1) before)
+              is_ended.files
+            where
+              before : Contains set3.full.added file
+              before = subst (λ (e : Edit). Contains e.added file) (sym full3) c
+
+              apart : (one : NewFile) → Contains (made_files made) one → file.number ≡ one.number → ⊥
+              apart one there same =
+                  let given : file.number < set.next_file = All-contains (λ (f : NewFile). f.number < set.next_file) set.full.added file may.given c in
+                  let above = made_above format set first logs replay set1 replayed_files (replays.ok modelled) one there in
+                  omega (arith, given, above, same)
+
+          -- a table is as it was once the logs were replayed
+          table_same : IsTrue env.models_disk → (n : ℕ) → n < 2 ^ 64
+              → (env.observed e3).disk.files (table_path store n) ≡ replayed_files (table_path store n)
+          table_same modelled n fits = is_ended.same_tables modelled n fits
+              ∙ log_alone replay.used store set2.next_file replayed_files (log_files cmp (Ok pair) set3 e2 opens)
+              (run2 cmp (Ok pair) set3 e2 opens modelled).has (table_path store n)
+              (types_apart store (log_path store (number_to_write replay.used set2.next_file)) (table_path store n) Log Table
+              (is_log_path store (number_to_write replay.used set2.next_file) opens.number_fits) (is_table_path store n fits) (λ e. cc))
+
+          module _ (modelled : IsTrue env.models_disk) (meaning : Meaning) (agrees : Agrees format meaning) where
+            abbrev IsTable : List ℕ → List Pair → Type 0
+            IsTable = IsTableOf format.order meaning
+
+            abbrev read : HasReplayedLogs format.order meaning set first logs replay set1 replayed_files
+            read = replays.ok modelled meaning agrees
+
+            -- a table that was made is there, and live
+            made_is_there : (table : LiveTable) → Contains read.tables table
+                → HasTable store format.order IsTable (env.observed e3).disk.files table
+            made_is_there table c =
+                let made_table = read.made_tables.each table c in
+                table_on store format.order IsTable replayed_files (env.observed e3).disk.files table
+                (ap (option_map bytes_of) (table_same modelled table.file.number made_table.3.number))
+                (subst (λ s. HasTable s format.order IsTable replayed_files table) may.path made_table.0)
+
+            made_is_live : (table : LiveTable) → Contains read.tables table → Contains set4.full.added table.file
+            made_is_live table c = ⊎_elim
+                (λ (more : set4.full.added ≡ files_after (tables_edit N (made_files made)) set3.full.added).
+                subst (λ files. Contains files table.file) (sym more)
+                (subst (λ (files : List NewFile). Contains (fold files_with set3.full.added files) table.file) read.files_are
+                (made_with_each read.tables set3.full.added (pairwise_of IsMadeBefore read.tables read.made_tables.rising) table c)))
+                (λ (same : (replay.leaves_log ≡ false) × (set4.full.added ≡ set3.full.added)).
+                absurd (in_none table (subst (λ tables. Contains tables table) (read.leaves same.0).0 c)))
+                is_ended.files
+
+            logs_read : AreLogs store first logs read.logs
+            logs_read = subst (λ s. AreLogs s first logs read.logs) may.path read.are_logs
+
+            last_read : set4.last_sequence ≡ max set.last_sequence (greatest (log_entries read.logs))
+            last_read =
+                let kept : set1.last_sequence ≡ set.last_sequence = ap (λ (s : VersionSetValue). s.last_sequence) replays.spares.numbers.set in
+                let last : replay.last ≡ greatest (log_entries read.logs) = read.last_is in
+                is_ended.last ∙ ap (λ (s : VersionSetValue). s.last_sequence) opens.set ∙ last_to_write replay.used set2
+                ∙ ap (λ (s : VersionSetValue). s.last_sequence) set2_is ∙ (λ i. max (kept i) (last i))
+
+            -- so the logs are held in a store that is open with this set and these entries
+            holds_read : (value : OpenStoreValue C) → value.set ≡ set4 → value.mem.entries ≡ entries_to_write replay.used
+                → HoldsLogs format.order meaning store set.last_sequence read.logs value (env.observed e3).disk.files
+            holds_read value set_is mem_is = record {
+              tables = read.tables;
+              each = λ table c. (
+                made_is_there table c,
+                subst (λ (s : VersionSetValue). Contains s.full.added table.file) (sym set_is) (made_is_live table c),
+              );
+              entries = held_entries replay.used read.logs read.tables value.mem.entries mem_is read.tables_made;
+              last_is = ap (λ (s : VersionSetValue). s.last_sequence) set_is ∙ last_read;
+            }
 
           -- nothing was counted
           counted : (b : Bool) → LogsIfWanted env b N made set3 e2 (Ok done) set4 e3 → env.failures e3 ≡ env.failures e2
@@ -675,6 +767,12 @@ module _ {E F D FP : Type 0} (env : Ghosts E F) {order : CmpGhosts D} {filters :
               manifest = λ modelled one used.
                   let same = one_in_use one is_ended.used (sym used ∙ ap (λ (s : VersionSetValue). s.manifest) is.set_is ∙ is_ended.is_in_use) in
                   subst (λ (m : OpenManifest). (env.observed e3).disk.files m.path ≢ None) (sym same) (is_ended.there modelled);
+              live = λ modelled file c. subst (λ (s : VersionSetValue). Contains s.full.added file) (sym is.set_is) (live_on modelled file c);
+              replayed = λ modelled meaning agrees. (
+                (replays.ok modelled meaning agrees).logs,
+                logs_read modelled meaning agrees,
+                holds_read modelled meaning agrees value is.set_is is.mem_is,
+              );
               keeps = all_keep (Ok done) set4 e3 logged locks;
               opens = opened_by wanted refl logged;
               others = all_spare (Ok done) set4 e3 logged locks;

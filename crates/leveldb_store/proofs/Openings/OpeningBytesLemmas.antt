@@ -1,6 +1,6 @@
 -- What is appended to files while a store is opened are bytes.
-use Rattle.std.specs.Prelude.{Contains, IsTrue}
-use Rattle.std.proofs.Common.{◌≡◌, inl, inr, ⊎_elim, ℕ, Bool, true, false, List, [], ◌∷◌, Option, None, Some, Result, refl, subst, sym}
+use Rattle.std.specs.Prelude.{Contains, IsTrue, IsSome}
+use Rattle.std.proofs.Common.{◌≡◌, inl, inr, ⊎_elim, ℕ, Bool, true, false, List, [], ◌∷◌, Option, None, Some, Result, refl, subst, sym, ◌≤◌}
 use Rattle.leveldb_base.proofs.EntriesLemmas.{in_map}
 use Rattle.leveldb_base.specs.KeyTypes.{user_part}
 use Rattle.leveldb_base.specs.declared.error.Status.{Status}
@@ -98,6 +98,19 @@ made_tables_there format old from numbers replay new at replays file c =
     (subst (λ files. Contains files file) (sym h.files_are) c) in
     let has = (h.made_tables.each x.0 x.1).0 in
     subst (IsTableThere old.store at) x.2 (subst (IsSized x.0.file.size) (sym has.there) has.size)
+
+-- and each number is one that was given since
+pub made_above : {C : Type 0} (format : Format) (old : VersionSetValue) (from : Files)
+    (numbers : List ℕ) (replay : Replay C) (new : VersionSetValue) (at : Files)
+    → ((meaning : Meaning) → Agrees format meaning
+    → HasReplayedLogs format.order meaning old from numbers replay new at)
+    → (file : NewFile) → Contains (made_files replay.tables.items) file
+    → old.next_file ≤ file.number
+made_above format old from numbers replay new at replays file c =
+    let h = replays (own_meaning format) (own_agrees format) in
+    let x = in_map (λ (table : LiveTable). table.file) h.tables file
+    (subst (λ files. Contains files file) (sym h.files_are) c) in
+    subst (λ (f : NewFile). old.next_file ≤ f.number) x.2 (h.made_tables.numbers x.0 x.1).0
 
 -- ---- calls
 

@@ -25,7 +25,7 @@ use Rattle.leveldb_version_set.proofs.Engines.OpeningEndLemmas.{openings_end, op
 use Rattle.leveldb_files.specs.Stores.Contents.{Contents, Store, made}
 use Rattle.leveldb_version_set.specs.Sets.CurrentFile.{temp_path}
 use Rattle.leveldb_files.specs.Histories.Holds.{Holds}
-use Rattle.leveldb_version.specs.Edits.FullEdit.{full_after}
+use Rattle.leveldb_version.specs.Edits.FullEdit.{files_after, full_after}
 use Rattle.leveldb_version_set.specs.Sets.LogEdit.{AppendingAndSyncing, AppendsEdit, BeginsManifest, LogEditResult, edit_record, new_manifest, new_records, set_appended, set_begun, with_bytes_kept, written_edit}
 use Rattle.leveldb_version_set.specs.Sets.NewManifest.{MakingManifest, manifest_bytes, with_manifest}
 use Rattle.leveldb_version_set.specs.Engines.Opening.{opened_memory, tables_edit}
@@ -439,6 +439,8 @@ module _ {E F : Type 0} (env : Ghosts E F) (built : List FileMetaData) (set : Ve
     pub levels : (cmp : List ℕ → List ℕ → Ordering)
         → AreInLevels env.models_disk cmp set.full.added
         → AreInLevels env.models_disk cmp new.full.added
+    -- the live files are those after the edit
+    pub files : new.full.added ≡ files_after tables set.full.added
     -- each live file was one before, or is added
     pub live : All (λ (file : NewFile). Contains set.full.added file
         ⊎ Contains (made_files built) file) new.full.added
@@ -512,6 +514,7 @@ module _ {E F : Type 0} (env : Ghosts E F) (built : List FileMetaData) (set : Ve
             given = given_after new (ap (λ (v : VersionSetValue). v.full) l.ok)
                 (ap (λ (v : VersionSetValue). v.next_file) l.ok);
             levels = levels_after new (ap (λ (v : VersionSetValue). v.full) l.ok);
+            files = ap (λ (v : VersionSetValue). v.full.added) l.ok;
             live = live_after_edit new (ap (λ (v : VersionSetValue). v.full) l.ok);
             tables = λ modelled own fits n number_fits.
                 ((l.does modelled).now modelled).others (table_path set.store n)
@@ -548,6 +551,7 @@ module _ {E F : Type 0} (env : Ghosts E F) (built : List FileMetaData) (set : Ve
             given = given_after new (ap (λ (v : VersionSetValue). v.full) l.ok)
                 (ap (λ (v : VersionSetValue). v.next_file) l.ok);
             levels = levels_after new (ap (λ (v : VersionSetValue). v.full) l.ok);
+            files = ap (λ (v : VersionSetValue). v.full.added) l.ok;
             live = live_after_edit new (ap (λ (v : VersionSetValue). v.full) l.ok);
             tables = λ modelled own fits n number_fits.
                 appending_and_syncing manifest.path (frame manifest.writer (edit_record set tables))

@@ -9,10 +9,14 @@ use Rattle.std.specs.List.Sorted.{IsStrictlySortedBy}
 use Rattle.std.specs.Option.{unwrap_or}
 use Rattle.std.specs.Ordering.{nat_cmp}
 use Rattle.leveldb_base.proofs.HistoryLemmas.{in_cases, in_front, in_none, in_rest}
+use Rattle.leveldb_env.specs.Env.{Files}
 use Rattle.leveldb_mem.specs.Log.{bad}
-use Rattle.leveldb_files.specs.Stores.Store.{LogIsReplayed, LogsRise, ReplayedLog}
+use Rattle.leveldb_files.specs.Stores.Store.{HasLog, LogIsReplayed, LogsRise, ReplayedLog}
+use Rattle.leveldb_files.specs.Edits.Edit.{Edit}
 use Rattle.leveldb_files.specs.Edits.VersionSet.{FileSet}
-use Rattle.leveldb_store.specs.Openings.OpeningSteps.{BadEndsEnd, IsReplayed}
+use Rattle.leveldb_version_set.specs.Sets.VersionSetValue.{VersionSetValue}
+use Rattle.leveldb_store.specs.Openings.FoundFiles.{AreFoundLogs}
+use Rattle.leveldb_store.specs.Openings.OpeningSteps.{AreLogs, BadEndsEnd, IsReplayed, IsSetOfEdits}
 
 -- ---- by the manifest's numbers
 
@@ -134,3 +138,52 @@ bad_ends_end logs rise ends front one later are is_bad other c =
     let within : (log : ReplayedLog) → Contains (one ∷ later) log → Contains logs log
     = λ log there. subst (λ them. Contains them log) (sym are) (Contains-append_right front (one ∷ later) log there) in
     ends one other (within one (in_front one later)) (within other (in_rest one other later c)) (later_rises front one later (subst LogsRise are rise) other c) is_bad
+
+-- so it does of any two logs, if it ends the history
+two_ends : (logs : List ReplayedLog) → LogsRise logs → BadEndsEnd logs → (a b : ReplayedLog)
+    → Contains logs a → Contains logs b → a.number < b.number → a.end ≡ bad → b.size ≡ 0
+two_ends [] rise ends a b in_a in_b less is_bad = absurd (in_none a in_a)
+two_ends (first ∷ logs) rise ends a b in_a in_b less is_bad = ⊎_elim
+    (λ (e : first ≡ a). ⊎_elim
+    (λ (f : first ≡ b). let same = ap (λ (log : ReplayedLog). log.number) (sym e ∙ f) in
+    absurd (omega (arith, same, less)))
+    (λ (later : Contains logs b).
+    ends [] first logs refl (ap (λ (log : ReplayedLog). log.end) e ∙ is_bad) b later)
+    (in_cases first b logs in_b))
+    (λ (later : Contains logs a). ⊎_elim
+    (λ (f : first ≡ b). let above = rise.0 a later in
+    let same = ap (λ (log : ReplayedLog). log.number) f in absurd (omega (arith, above, same, less)))
+    (λ (rest : Contains logs b). two_ends logs rise.1
+    (λ front one more are. ends (first ∷ front) one more (ap (λ them. first ∷ them) are)) a b later
+    rest less is_bad)
+    (in_cases first b logs in_b))
+    (in_cases first a logs in_a)
+
+-- ---- the logs that are found
+
+rise_as : (logs : List ReplayedLog) → Rise (numbers_of logs) → LogsRise logs
+rise_as [] rise = tt
+rise_as (first ∷ logs) rise =
+    (λ later c. rise.0 later.number (numbered logs later c), rise_as logs rise.1)
+
+-- logs of the numbers of a set are those that its edits have replayed
+pub found_logs : (store : List ℕ) (files now : Files) (edits : List Edit) (set : VersionSetValue)
+    (numbers : List ℕ) → IsSetOfEdits store files edits set numbers
+    → ((log : ReplayedLog) → HasLog store now log → HasLog store files log)
+    → (logs : List ReplayedLog) → AreLogs store now numbers logs → AreFoundLogs store files edits logs
+found_logs store files now edits set numbers of were logs are = record {
+  replayed = record {
+    each = λ log c.
+        let it = of.each log.number (subst (λ ns. Contains ns log.number) are.numbers_are
+        (numbered logs log c)) in (were log (are.each log c), it.0, it.1);
+    all = λ name n is replayed there.
+        let it = of.all name n is replayed there in
+        (it.0, of_number logs n (subst (λ ns. Contains ns n) (sym are.numbers_are) it.1));
+    rising = rising;
+  };
+  in_order = are.in_order;
+  ends = two_ends logs rising are.ends;
+}
+  where
+    rising : LogsRise logs
+    rising = rise_as logs (subst Rise (sym are.numbers_are) (sorted_rise numbers of.rising))

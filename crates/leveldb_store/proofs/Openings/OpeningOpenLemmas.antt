@@ -9,6 +9,7 @@ use Rattle.leveldb_env.specs.declared.env.Env.{Ghosts}
 use Rattle.leveldb_env.specs.declared.filter.FilterPolicy.{Ghosts as FilterGhosts}
 use Rattle.leveldb_files.specs.Stores.Contents.{Contents}
 use Rattle.leveldb_store.proofs.Openings.OpeningFrontLemmas.{keeps_found_then}
+use Rattle.leveldb_store.proofs.Openings.OpeningNumbersLemmas.{found_logs}
 use Rattle.leveldb_store.proofs.Openings.OpeningRecoverLemmas.{cause_of_step}
 use Rattle.leveldb_store.proofs.Openings.OpeningSameLemmas.{spares_then}
 use Rattle.leveldb_store.proofs.Logs.FoundLogsLemmas.{logs_same}
@@ -34,6 +35,8 @@ module _ {E F C : Type 0} (env : Ghosts E F) (format : Format) (store : List ℕ
     room = tt;
     tables = tt;
     manifest = tt;
+    live = tt;
+    replayed = tt;
     keeps = recovers.keeps;
     opens = λ modelled meaning agrees contents sound. tt;
     stays = recovers.stays;
@@ -126,6 +129,23 @@ module _ {E F D FP : Type 0} (env : Ghosts E F) {keys : CmpGhosts D} {filters : 
         room = begins.room;
         tables = begins.tables;
         manifest = begins.manifest;
+        live = λ modelled edits has file is_live. begins.live modelled file (((recovers.ok.tracks modelled edits has).live.live file).1 is_live);
+        replayed = λ modelled meaning agrees edits has.
+            let of = recovers.ok.tracks modelled edits has in
+            let logs = begins.replayed modelled meaning agrees in
+            record {
+              tables = logs.2.tables;
+              each = logs.2.each;
+              entries = record {
+                logs = logs.0;
+                found = found_logs store (env.observed from).disk.files (env.observed mid).disk.files edits it.versions it.logs.keys of
+                    (recovers.ok.same_logs modelled edits has) logs.0 logs.1;
+                same = logs.2.entries;
+                manifest_last = it.versions.last_sequence;
+                manifest_sets = of.last;
+                last_is = logs.2.last_is;
+              };
+            };
         keeps = all_keep (Ok value) begins;
         opens = λ modelled meaning agrees contents sound. opened_as meaning contents value (env.observed to).disk.files
             (begins.opens modelled meaning agrees (with_comparator format.order_name contents) (was_recovered modelled meaning agrees contents sound));
@@ -141,6 +161,8 @@ module _ {E F D FP : Type 0} (env : Ghosts E F) {keys : CmpGhosts D} {filters : 
         room = tt;
         tables = tt;
         manifest = tt;
+        live = tt;
+        replayed = tt;
         keeps = all_keep (Err status) begins;
         opens = λ modelled meaning agrees contents sound. tt;
         stays = λ modelled which. absurd (recovers.stays modelled which).0;

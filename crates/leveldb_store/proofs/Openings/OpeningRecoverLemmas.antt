@@ -7,23 +7,24 @@ use Rattle.leveldb_env.proofs.EnvLemmas.{Run-mono, Run-trans}
 use Rattle.leveldb_env.specs.Env.{Files, FilesUnchanged, HasCause, Run, SameLocks}
 use Rattle.leveldb_env.specs.declared.env.Env.{Ghosts}
 use Rattle.leveldb_mem.specs.WriteBatch.{Batch}
-use Rattle.leveldb_files.proofs.Stores.ManifestLemmas.{managed_of}
+use Rattle.leveldb_files.proofs.Stores.ManifestLemmas.{managed_of, one_has_edits}
 use Rattle.leveldb_files.specs.Stores.Contents.{Contents, made}
 use Rattle.leveldb_files.specs.Stores.Paths.{current_path}
-use Rattle.leveldb_files.specs.Stores.Store.{HasEdits}
+use Rattle.leveldb_files.specs.Edits.Edit.{Edit}
+use Rattle.leveldb_files.specs.Stores.Store.{HasEdits, HasLog, ReplayedLog as StoreLog}
 use Rattle.leveldb_store.proofs.Openings.FoundNumbersLemmas.{found_before, log_before, unsupported_before}
 use Rattle.leveldb_store.proofs.Openings.OpeningBytesLemmas.{keeping_bytes, set_bytes}
 use Rattle.leveldb_store.proofs.Openings.OpeningFrontLemmas.{IsFoundOrMade, current_is_there, damaged_before, found_is_sound, keeps_found_then, lacking_is_damaged, other_before}
 use Rattle.leveldb_store.proofs.Openings.OpeningMadeLemmas.{making_keeps, making_spares}
 use Rattle.leveldb_store.proofs.Openings.OpeningNamesLemmas.{sorted_none}
-use Rattle.leveldb_store.proofs.Openings.OpeningRecoveredLemmas.{comparator_is, edits_read, have_numbers, in_use_is, is_read, is_recovered, leaving_keeps, log_was, logs_read, logs_there, manifest_below, manifest_there, new_numbers, numbers_after, own_is, path_is, tables_there, then_bytes, unbroken_is}
+use Rattle.leveldb_store.proofs.Openings.OpeningRecoveredLemmas.{comparator_is, edits_read, have_numbers, in_use_is, is_read, is_recovered, leaving_keeps, log_was, log_was_there, logs_read, logs_there, manifest_below, manifest_there, new_numbers, numbers_after, of_edits, own_is, path_is, tables_there, then_bytes, unbroken_is}
 use Rattle.leveldb_store.proofs.Openings.OpeningKeptLemmas.{finding_loses, keeping_loses, setting_loses}
 use Rattle.leveldb_store.proofs.Openings.OpeningSameLemmas.{keeping_keeps, keeping_spares, spares_then}
 use Rattle.leveldb_store.specs.Logs.FoundLogs.{LogBeginsWith}
 use Rattle.leveldb_files.specs.Stores.Format.{Format, IsTableOf, Meaning}
 use Rattle.leveldb_store.specs.Keeping.KeptBytes.{HasNewNumbers, LosesNothing}
 use Rattle.leveldb_store.specs.Openings.OpeningState.{IsRecoveredWith, with_comparator}
-use Rattle.leveldb_store.specs.Openings.OpeningSteps.{AreBeingKept, AreDamagedLogs, ComesAfterFound, FindsStore, IsBeingMade, IsUnsupported, RecoversSet, RecoversStore, WhyNotFound, WhyNotRecovered, with_logs_kept}
+use Rattle.leveldb_store.specs.Openings.OpeningSteps.{AreBeingKept, AreDamagedLogs, ComesAfterFound, FindsStore, IsBeingMade, IsSetOfEdits, IsUnsupported, RecoversSet, RecoversStore, WhyNotFound, WhyNotRecovered, with_logs_kept}
 use Rattle.leveldb_store.specs.Openings.OpensStore.{AreTablesThere, HasHugeManifest, HasSharedUserKey, IsDamaged, IsForbidden, IsSound, KeepsFound, LacksCurrent, LacksNumbers, LacksUsableEdits, SameBesideOwn, WhyNotOpenable}
 use Rattle.leveldb_store.specs.Logs.ReplayLog.{HasCauseOr}
 use Rattle.leveldb_store.specs.Keeping.SoundCall.{BytesAreAppended}
@@ -54,6 +55,13 @@ memory_cause f1 f2 status cause = record {
   uncounted = λ why. ⊎_elim (λ (memory : IsOutOfMemory status). cause.uncounted memory) (λ (never : ⊥ × (f2 ≡ f1)). absurd never.0) why;
   cause = ⊎_elim (λ (memory : IsOutOfMemory status). inl (inl memory)) (λ counted. inr counted) cause.cause;
 }
+
+-- where `CURRENT` names a manifest, no store is made
+found_there : (store comparator : List ℕ) (files now : Files) → IsFoundOrMade store comparator files now
+    → (edits : List Edit) → HasEdits store files edits → now ≡ files
+found_there store comparator files now (inl same) edits has = same.1
+found_there store comparator files now (inr new) edits has = absurd
+    (let never : Some has.current ≡ None = sym has.current_there ∙ new.bare.no_current in cc)
 
 module _ {E F : Type 0} (env : Ghosts E F) (format : Format) (store : List ℕ) (create_if_missing error_if_exists : Bool) (from : E) where
   abbrev first : Files
@@ -282,6 +290,31 @@ module _ {E F : Type 0} (env : Ghosts E F) (format : Format) (store : List ℕ) 
                 log_before store format first (env.observed mid).disk.files (found modelled) n (have_numbers env format reuse limit store mid then it.needs_new_manifest it.versions logs sets.ok n there) batches
                 (log_was env format reuse limit store mid then it.needs_new_manifest it.versions logs sets.ok modelled n batches (subst (λ f. LogBeginsWith store f n batches) (kept modelled) begins))
 
+            -- the edits that the manifest had are those that were read
+            edits_were : (modelled : IsTrue env.models_disk) (edits : List Edit) → HasEdits store first edits
+                → ((env.observed mid).disk.files ≡ first)
+                × (edits_read env format reuse limit store mid then it.needs_new_manifest it.versions logs sets.ok ≡ edits)
+            edits_were modelled edits has =
+                let same = found_there store format.order_name first (env.observed mid).disk.files (found modelled) edits has in
+                let read = edits_read env format reuse limit store mid then it.needs_new_manifest it.versions logs sets.ok in (
+                  same,
+                  (one_has_edits store first read edits (subst (λ f. HasEdits store f read) same
+                      (is_read env format reuse limit store mid then it.needs_new_manifest it.versions logs sets.ok modelled).has_edits) has).1,
+                )
+
+            tracks : IsTrue env.models_disk → (edits : List Edit) → HasEdits store first edits → IsSetOfEdits store first edits it.versions logs
+            tracks modelled edits has =
+                let were = edits_were modelled edits has in
+                subst (λ f. IsSetOfEdits store f edits it.versions logs) were.0
+                (subst (λ es. IsSetOfEdits store (env.observed mid).disk.files es it.versions logs) were.1
+                (of_edits env format reuse limit store mid then it.needs_new_manifest it.versions logs sets.ok modelled))
+
+            same_logs : IsTrue env.models_disk → (edits : List Edit) → HasEdits store first edits → (log : StoreLog)
+                → HasLog store (env.observed to).disk.files log → HasLog store first log
+            same_logs modelled edits has log there = subst (λ f. HasLog store f log) (edits_were modelled edits has).0
+                (log_was_there env format reuse limit store mid then it.needs_new_manifest it.versions logs sets.ok modelled log
+                (subst (λ f. HasLog store f log) (kept modelled) there))
+
             damage : IsTrue env.models_disk → AreDamagedLogs store (env.observed to).disk.files logs → IsDamaged store format first
             damage modelled damaged = damaged_before store format first (env.observed mid).disk.files (found modelled) at_mid
               where
@@ -312,6 +345,8 @@ module _ {E F : Type 0} (env : Ghosts E F) (format : Format) (store : List ℕ) 
                       (manifest_there env format reuse limit store mid then it.needs_new_manifest it.versions logs sets.ok modelled manifest used);
                 };
                 recovered = λ modelled meaning agrees contents sound. all_recovered modelled meaning contents sound;
+                tracks = tracks;
+                same_logs = same_logs;
                 new_numbers = λ modelled. subst (HasNewNumbers store it.versions) (sym (kept modelled))
                     (new_numbers env format reuse limit store mid then it.needs_new_manifest it.versions logs sets.ok modelled);
                 numbers = numbers;

@@ -1,5 +1,5 @@
 -- A store whose set an opening recovers, and whose logs it syncs.
-use Rattle.std.specs.Prelude.{◌≢◌, Contains, IsSome, IsTrue}
+use Rattle.std.specs.Prelude.{◌≢◌, Contains, IsSome, IsTrue, fold}
 use Rattle.std.proofs.Common.{◌≡◌, ◌⊎◌, ◌∙◌, ◌+◌, ◌<◌, ◌≤◌, ◌^◌, inl, inr, ⊎_elim, ℕ, Bool, true, false, List, Option, None, Some, ap, arith, refl, subst, sym}
 use Rattle.std.proofs.lemmas.Bool.{cases_lt}
 use Rattle.std.proofs.lemmas.List.Elements.{All-weaker}
@@ -19,16 +19,18 @@ use Rattle.leveldb_files.proofs.Steps.KeepsLemmas.{sync_keeps}
 use Rattle.leveldb_files.proofs.Stores.ManagedLemmas.{found_again, gone_again, log_on}
 use Rattle.leveldb_files.proofs.Stores.ManifestLemmas.{managed_of}
 use Rattle.leveldb_version_set.proofs.Sets.TracksLemmas.{next_is_above, not_unmade, one_in_use}
+use Rattle.leveldb_version_set.proofs.Sets.UsableLemmas.{full_of_all}
 use Rattle.leveldb_version_set.proofs.Engines.RecoveringLemmas.{recovered_sets_track, safe_stores_keep_tables, stores_are_recovered}
 use Rattle.leveldb_files.specs.Stores.Contents.{Contents, Store, made}
 use Rattle.leveldb_version_set.specs.Engines.Opening.{IsRecoveredBut}
 use Rattle.leveldb_version_set.specs.Engines.OpeningLaws.{RecoveredIsTracked}
 use Rattle.leveldb_files.specs.Stores.Paths.{log_path, manifest_path, table_path}
 use Rattle.leveldb_version_set.specs.Sets.Recover.{IsRead, IsReusable, SyncsManifestAtMost, ReadManifest, next_number_after, set_going_on, set_starting_anew}
-use Rattle.leveldb_files.specs.Stores.Store.{IsManagedBy, LogIsReplayed, ReplayedLog}
+use Rattle.leveldb_files.specs.Stores.Store.{HasLog, IsManagedBy, LogIsReplayed, ReplayedLog}
 use Rattle.leveldb_files.specs.Steps.StoreSteps.{AppendedAreBytes, KeepsHistory}
-use Rattle.leveldb_files.specs.Edits.Edit.{Edit, NewFile}
-use Rattle.leveldb_files.specs.Edits.VersionSet.{live_after}
+use Rattle.leveldb_files.specs.Edits.Edit.{Edit, NewFile, empty_edit}
+use Rattle.leveldb_files.specs.Edits.VersionSet.{ListsFiles, live_after}
+use Rattle.leveldb_version.specs.Edits.FullEdit.{full_after}
 use Rattle.leveldb_version_set.specs.Sets.VersionSetValue.{OpenManifest, VersionSetValue, broken, in_use, new_version_set, unmade}
 use Rattle.leveldb_version_set.specs.Engines.Writing.{IsTrackedBy}
 use Rattle.leveldb_store.proofs.Openings.OpeningFindLemmas.{listed, no_slash_in_log}
@@ -41,7 +43,7 @@ use Rattle.leveldb_store.specs.Keeping.KeptBytes.{HasNewNumbers}
 use Rattle.leveldb_store.specs.Keeping.OpenStore.{HasOwnManifest}
 use Rattle.leveldb_store.proofs.Openings.FoundNumbersLemmas.{edits_after}
 use Rattle.leveldb_store.specs.Logs.FoundLogs.{BeginsWithBatches, LogBeginsWith}
-use Rattle.leveldb_store.specs.Openings.OpeningSteps.{AreDamagedLogs, AreLogs, ComesAfterFound, IsRecoveredSet, with_logs_kept}
+use Rattle.leveldb_store.specs.Openings.OpeningSteps.{AreDamagedLogs, AreLogs, ComesAfterFound, IsRecoveredSet, with_logs_kept, IsSetOfEdits}
 use Rattle.leveldb_store.specs.Openings.OpensStore.{AreTablesThere, IsSound, IsTableThere}
 use Rattle.leveldb_store.proofs.Openings.TableSizesLemmas.{sized_still}
 
@@ -153,6 +155,15 @@ module _ {E F : Type 0} (env : Ghosts E F) (format : Format) (reuse : Bool) (lim
 
     pub have_numbers : HaveNumbers store logs
     have_numbers n c = (r.logs_are.each n c).2
+
+    -- its live files are those that the edits leave
+    live_files_are : ListsFiles (live_after edits_read) set.full.added
+    live_files_are = subst (λ (full : Edit). ListsFiles (live_after edits_read) full.added)
+        (sym full_is) (full_of_all edits_read).added
+      where
+        full_is : set.full ≡ fold full_after empty_edit edits_read
+        full_is = ⊎_elim (λ (it : GoesOn). ap (λ (s : VersionSetValue). s.full) it.1)
+            (λ (it : StartsAnew). ap (λ (s : VersionSetValue). s.full) it.1) outcome
 
     -- ---- the files
 
@@ -302,6 +313,26 @@ module _ {E F : Type 0} (env : Ghosts E F) (format : Format) (reuse : Bool) (lim
             in_order = are.in_order;
             ends = are.ends;
           })
+
+      -- it is the set of these edits
+      pub of_edits : IsSetOfEdits store first edits_read set logs
+      of_edits = record {
+        live = live_files_are;
+        last = last_is;
+        each = λ n c. (
+          replayed_log (live_after edits_read) set.log_number set.previous_log set_numbers n (r.logs_are.each n c).0,
+          have_numbers n c,
+        );
+        all = λ name n is replayed there. r.logs_are.all name n
+            (listed store first r.names (r.lists modelled) name (no_slash_in_log name n is) there) is
+            (log_replayed (live_after edits_read) set.log_number set.previous_log set_numbers n replayed);
+        rising = r.logs_are.rising;
+      }
+
+      -- and a log is one that was there
+      pub log_was_there : (log : ReplayedLog) → HasLog store last log → HasLog store first log
+      log_was_there log has = log_on store format.order (λ bytes pairs. Unit {0}) last first log
+          (sym (last_text (log_path store log.number))) has
 
       -- ---- the store
 

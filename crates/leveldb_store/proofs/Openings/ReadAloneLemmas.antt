@@ -14,7 +14,7 @@ use Rattle.leveldb_base.specs.declared.error.StatusCode.TheVariants.{Corruption,
 use Rattle.leveldb_env.specs.Env.{Files, FilesUnchanged, HasCause, Run, SameLocks}
 use Rattle.leveldb_env.specs.declared.env.Env.{Ghosts}
 use Rattle.leveldb_mem.specs.MemTable.{Kept}
-use Rattle.leveldb_files.proofs.Stores.ManifestLemmas.{managed_of}
+use Rattle.leveldb_files.proofs.Stores.ManifestLemmas.{managed_of, one_has_edits}
 use Rattle.leveldb_files.proofs.Histories.NumbersLemmas.{up_to_greatest}
 use Rattle.leveldb_files.proofs.Stores.OneStoreLemmas.{one_table, tables_in}
 use Rattle.leveldb_version_set.proofs.Sets.RecoverLemmas.{cause_of_error}
@@ -28,22 +28,23 @@ use Rattle.leveldb_files.specs.Histories.Holds.{MatchesHistory}
 use Rattle.leveldb_files.specs.Levels.Levels.{LevelOrder, LiveTable, table_entries}
 use Rattle.leveldb_files.specs.Stores.Paths.{current_path}
 use Rattle.leveldb_version_set.specs.Sets.Recover.{set_starting_anew}
-use Rattle.leveldb_files.specs.Stores.Store.{HasEdits, HasTable, HasTables, IsManagedBy, IsStore, ReplayedLog as StoreLog, SameEntries, log_batches, log_entries}
+use Rattle.leveldb_files.specs.Stores.Store.{HasEdits, HasLog, HasTable, HasTables, IsManagedBy, IsStore, ReplayedLog as StoreLog, SameEntries, log_batches, log_entries}
 use Rattle.leveldb_files.specs.Edits.Edit.{Edit, NewFile, empty_edit}
 use Rattle.leveldb_files.specs.Edits.VersionSet.{ListsFiles, level_file, live_after}
 use Rattle.leveldb_version_set.specs.Sets.VersionSetValue.{VersionSetValue, broken, in_use, unmade}
 use Rattle.leveldb_version_set.specs.Engines.Writing.{ShowsHistory}
 use Rattle.leveldb_store.specs.Keeping.OpenStore.{AreInLevels, AreNumbersGiven, HasOwnManifest, OpenStoreValue}
-use Rattle.leveldb_store.specs.Openings.OpeningSteps.{AreDamagedLogs, AreLogs, IsSetToRead, IsUnsupported, ReadsSet, WhyNotRecovered}
+use Rattle.leveldb_store.specs.Openings.OpeningSteps.{AreDamagedLogs, AreLogs, IsSetOfEdits, IsSetToRead, IsUnsupported, ReadsSet, WhyNotRecovered}
 use Rattle.leveldb_store.specs.Openings.OpensStore.{AreTablesThere, HasOtherComparator, IsDamaged}
 use Rattle.leveldb_store.specs.Logs.FoundLogs.{LogsBeginWith}
-use Rattle.leveldb_store.specs.Openings.OpensToRead.{FailsToOpenToRead, IsReadAlone, IsReadAs, OpensToRead, WhyNotReadable}
+use Rattle.leveldb_store.specs.Openings.OpensToRead.{FailsToOpenToRead, IsReadAlone, IsReadAs, OpensToRead, ReadsFound, WhyNotReadable}
 use Rattle.leveldb_store.specs.Logs.ReadLogs.{HasReadLogs, ReadsLogs, WhyLogsUnread}
 use Rattle.leveldb_store.specs.Logs.ReplayLog.{HasCauseOr}
 use Rattle.leveldb_store.specs.Keeping.Written.{HasLiveTables, HasView, memory_of}
 use Rattle.leveldb_store.specs.declared.opening.replay_log.ReplayedLog.{ReplayedLog}
 use Rattle.leveldb_store.proofs.Keeping.HistoryLemmas.{tables_for}
-use Rattle.leveldb_store.proofs.Openings.OpeningRecoveredLemmas.{edits_read, is_read, last_is, logs_are, path_is}
+use Rattle.leveldb_store.proofs.Openings.OpeningRecoveredLemmas.{edits_read, is_read, last_is, logs_are, of_edits, path_is}
+use Rattle.leveldb_store.proofs.Openings.OpeningNumbersLemmas.{found_logs}
 use Rattle.leveldb_store.proofs.Openings.RecoverSetLemmas.{still_thrice}
 use Rattle.leveldb_store.proofs.Logs.ReplayDamageLemmas.{one_list}
 use Rattle.leveldb_store.proofs.Keeping.TableKeepsLemmas.{one_reading_of}
@@ -149,7 +150,7 @@ module _ {E F : Type 0} (env : Ghosts E F) (format : Format) (store : List ℕ) 
   pub refused_to_read : {C : Type 0} (to : E) (status : Status) → (IsTrue env.models_disk → Run (FilesUnchanged first) (env.observed from) (env.observed to))
       → SameLocks env.models_disk (env.observed from) (env.observed to) → Opens {C = C} (Err status) to
   refused_to_read to status still locks =
-      record { path = tt; alone = tt; none_waits = tt; tables = tt; shows = λ modelled meaning agrees contents is. tt; missing = λ modelled gone. tt; unusable = λ modelled lacks. tt; still = still; locks = locks }
+      record { path = tt; alone = tt; none_waits = tt; tables = tt; shows = λ modelled meaning agrees contents is. tt; found = tt; missing = λ modelled gone. tt; unusable = λ modelled lacks. tt; still = still; locks = locks }
 
   pub cause_to_read : {C T : Type 0} {Why : Status → Type 0} (f1 : ℕ) (to : E) (status : Status) → f1 ≡ env.failures from → (Why status → WhyNotReadable env store format from status)
       → HasCauseOr {T = T} Why f1 (env.failures to) (Err status) → Causes {C = C} (Err status) to
@@ -291,6 +292,40 @@ module _ {E F : Type 0} (env : Ghosts E F) (format : Format) (store : List ℕ) 
                   (subst (λ (full : Edit). ListsFiles (live_after edits) full.added) (sym full_is) (full_of_all edits).added) none_waits mem_same history matches;
             })
 
+          -- what the files have is read, whatever they are
+          read_found : IsTrue env.models_disk → (those : List Edit) → HasEdits store first those → ReadsFound store those first value
+          read_found modelled those has = record {
+            live = subst (λ (s : VersionSetValue). ListsFiles (live_after those) s.full.added) (sym set_is) of.live;
+            there = subst (λ f. AreTablesThere store f value.set.full.added) (same_then modelled)
+                (subst (λ (s : VersionSetValue). AreTablesThere store (env.observed then).disk.files s.full.added) (sym set_is) (r.recovered.tables modelled));
+            entries = record {
+              logs = logs.logs;
+              found = found_logs store first (env.observed then).disk.files those as_recovered numbers of
+                  (λ log has_log. subst (λ f. HasLog store f log) (same_then modelled) has_log) logs.logs (logs.are_logs modelled);
+              same = λ entry.
+                  let it = logs.in_memory.are entry in (
+                    λ c. it.0 (subst (λ (k : Kept). Contains k.entries entry) mem_is c),
+                    λ c. subst (λ (k : Kept). Contains k.entries entry) (sym mem_is) (it.1 c),
+                  );
+              manifest_last = set.last_sequence;
+              manifest_sets = of.last;
+              last_is = ap (λ (s : VersionSetValue). s.last_sequence) set_is ∙ ap (λ (n : ℕ). max set.last_sequence n) logs.in_memory.last_is;
+            };
+            none_waits = none_waits;
+          }
+            where
+              same_first : (env.observed mid).disk.files ≡ first
+              same_first = (still1 modelled).has
+
+              edits_are : edits ≡ those
+              edits_are = (one_has_edits store first edits those (subst (λ f. HasEdits store f edits) same_first
+                  (is_read env format false 0 store mid then true as_recovered numbers r.recovered modelled).has_edits) has).1
+
+              of : IsSetOfEdits store first those as_recovered numbers
+              of = subst (λ f. IsSetOfEdits store f those as_recovered numbers) same_first
+                  (subst (λ es. IsSetOfEdits store (env.observed mid).disk.files es as_recovered numbers) edits_are
+                  (of_edits env format false 0 store mid then true as_recovered numbers r.recovered modelled))
+
           pub opened_to_read : SameLocks env.models_disk (env.observed from) (env.observed to) → Opens (Ok value) to
           opened_to_read locks = record {
             path = ap (λ (s : VersionSetValue). s.store) set_is ∙ path_is env format false 0 store mid then true as_recovered numbers r.recovered;
@@ -299,6 +334,7 @@ module _ {E F : Type 0} (env : Ghosts E F) (format : Format) (store : List ℕ) 
             tables = λ modelled. subst (λ (f : Files). AreTablesThere store f value.set.full.added) (sym (still3 modelled).has)
                 (subst (λ (s : VersionSetValue). AreTablesThere store (env.observed then).disk.files s.full.added) (sym set_is) (r.recovered.tables modelled));
             shows = λ modelled meaning agrees contents is. read_as modelled meaning contents is;
+            found = read_found;
             missing = λ modelled gone. there modelled gone;
             unusable = λ modelled lacks. lacks.1 edits (subst (λ f. HasEdits store f edits) (still1 modelled).has
                 (is_read env format false 0 store mid then true as_recovered numbers r.recovered modelled).has_edits) r.recovered.recovers.usable;

@@ -1,5 +1,5 @@
 -- What each step of an opening returns and leaves of a store's files, and why it fails.
-use Rattle.std.specs.Prelude.{◌≡◌, ◌≢◌, ◌≤◌, ◌<◌, ◌⊎◌, ◌+◌, ◌%◌, ◌^◌, ℕ, Bool, false, true, List, [], ◌∷◌, ◌++◌, map, Contains, Option, None, Some, IsSome, IfNone, IfSome, Result, OnErr, OnOk, IfOk, IsErrAnd, IsTrue, length}
+use Rattle.std.specs.Prelude.{◌≡◌, ◌≢◌, ◌≤◌, ◌<◌, ◌⊎◌, ◌+◌, ◌%◌, ◌^◌, ℕ, Bool, false, true, List, [], ◌∷◌, ◌++◌, map, Contains, Option, None, Some, IsSome, IfNone, IfSome, Result, OnErr, OnOk, IfOk, IsErrAnd, IsTrue, length, max}
 use Rattle.std.specs.BTreeSet.{BTreeSet}
 use Rattle.std.specs.List.Sorted.{IsStrictlySortedBy}
 use Rattle.std.specs.Ordering.{nat_cmp}
@@ -13,7 +13,7 @@ use Rattle.leveldb_base.specs.declared.error.StatusCode.TheVariants.{Corruption,
 use Rattle.leveldb_base.specs.declared.types.FileMetaData.{FileMetaData}
 use Rattle.leveldb_base.specs.declared.types.FileType.{FileType}
 use Rattle.leveldb_base.specs.declared.types.FileType.TheVariants.{Log}
-use Rattle.leveldb_env.specs.Env.{BeforeOrAfter, ChangesFiles, Files, FilesUnchanged, ListsChildren, Run, SameLocks, created, emptied, synced}
+use Rattle.leveldb_env.specs.Env.{BeforeOrAfter, ChangesFiles, Files, FilesUnchanged, ListsChildren, Run, SameLocks, created, emptied, in_folder, synced}
 use Rattle.leveldb_env.specs.declared.env.Env.{Ghosts}
 use Rattle.leveldb_env.specs.declared.filter.FilterPolicy.{Ghosts as FilterGhosts}
 use Rattle.leveldb_mem.specs.Log.{bad, clean, log_block_size}
@@ -29,13 +29,14 @@ use Rattle.leveldb_files.specs.Stores.Contents.{Contents}
 use Rattle.leveldb_version_set.specs.Engines.Opening.{tables_edit}
 use Rattle.leveldb_files.specs.Stores.Paths.{current_path, log_path}
 use Rattle.leveldb_version_set.specs.Sets.Recover.{SyncsManifestAtMost, Recovers}
-use Rattle.leveldb_files.specs.Stores.Store.{HasLog, HasNoStore, ReplayedLog as StoreLog, SameEntries, log_batches, log_entries}
-use Rattle.leveldb_files.specs.Edits.Edit.{IsEncodable, NewFile}
+use Rattle.leveldb_files.specs.Stores.Store.{HasEdits, HasLog, HasNoStore, HasTable, LogIsReplayed, ReplayedLog as StoreLog, SameEntries, log_batches, log_entries}
+use Rattle.leveldb_files.specs.Edits.Edit.{Edit, IsEncodable, NewFile}
+use Rattle.leveldb_files.specs.Edits.VersionSet.{ListsFiles, live_after}
 use Rattle.leveldb_version.specs.Edits.VersionEdit.{new_file_of}
 use Rattle.leveldb_version_set.specs.Sets.VersionSetValue.{AreFileNumbersUsedUp, OpenManifest, VersionSetValue, broken, in_use, new_version_set, unmade, with_number_given}
 use Rattle.leveldb_version_set.specs.Engines.Writing.{NumbersAreBelow}
 use Rattle.leveldb_store.specs.Tables.BuildTable.{TableChoices}
-use Rattle.leveldb_files.specs.Stores.Format.{Agrees, Format, Meaning}
+use Rattle.leveldb_files.specs.Stores.Format.{Agrees, Format, IsTableOf, Meaning}
 use Rattle.leveldb_store.specs.Openings.Listing.{AreNamesIn}
 use Rattle.leveldb_store.specs.Keeping.KeptBytes.{HasNewNumbers, LosesNoBytesMeanwhile, LosesNothing, TableNumbersAreBelow}
 use Rattle.leveldb_store.specs.Keeping.OpenStore.{AreInLevels, AreNumbersGiven, HasOwnManifest, IsUnbroken, OpenStoreValue}
@@ -469,6 +470,17 @@ module _ {E F : Type 0} (env : Ghosts E F) (store : List ℕ) (set : VersionSetV
     pub locks : SameLocks env.models_disk (env.observed from) (env.observed to)
     pub cause : HasCauseOr WhyUnchecked (env.failures from) (env.failures to) result
 
+-- A set has what these edits leave: the live files, the last number, and in rising order the
+-- numbers of the logs that are replayed, each of which is under its own name.
+pub record IsSetOfEdits (store : List ℕ) (files : Files) (edits : List Edit)
+    (set : VersionSetValue) (logs : List ℕ) : Type 0 where
+  pub live : ListsFiles (live_after edits) set.full.added
+  pub last : (live_after edits).last_sequence ≡ Some set.last_sequence
+  pub each : (n : ℕ) → Contains logs n → LogIsReplayed (live_after edits) n × (n < 2 ^ 64)
+  pub all : (name : List ℕ) (n : ℕ) → IsFileName name n Log → LogIsReplayed (live_after edits) n
+      → files (in_folder store name) ≢ None → (name ≡ file_name Log n) × Contains logs n
+  pub rising : IsStrictlySortedBy nat_cmp logs
+
 -- a number is found at or past the one before this
 abbrev pub ComesAfterFound : List ℕ → Files → ℕ → Type 0
 ComesAfterFound store files next =
@@ -583,6 +595,15 @@ module _ {E F : Type 0} (env : Ghosts E F) (format : Format) (store : List ℕ)
         → IsRecoveredWith store format.order meaning
         (with_comparator format.order_name contents) it.versions it.logs.keys
         (env.observed to).disk.files
+    -- whatever the files are, it is what the edits leave that the manifest had
+    pub tracks : IsTrue env.models_disk → (edits : List Edit)
+        → HasEdits store (env.observed from).disk.files edits
+        → IsSetOfEdits store (env.observed from).disk.files edits it.versions it.logs.keys
+    -- and a log is the one that was there
+    pub same_logs : IsTrue env.models_disk → (edits : List Edit)
+        → HasEdits store (env.observed from).disk.files edits → (log : StoreLog)
+        → HasLog store (env.observed to).disk.files log
+        → HasLog store (env.observed from).disk.files log
     -- no file has a number that is given from now on
     pub new_numbers : IsTrue env.models_disk
         → HasNewNumbers store it.versions (env.observed to).disk.files
@@ -628,6 +649,19 @@ module _ {E F : Type 0} (env : Ghosts E F) (format : Format) (store : List ℕ)
         (WhyNotOpenable env store format create_if_missing error_if_exists from)
         (env.failures from) (env.failures to) result
 
+-- The store is open with the entries of these logs: they are in memory, and in tables that are
+-- live and there. Its last number is this one or the greatest of theirs. `cmp` is the order of user
+-- keys, and `meaning` what names and ids in the files mean.
+pub record HoldsLogs {C : Type 0} (cmp : List ℕ → List ℕ → Ordering) (meaning : Meaning)
+    (store : List ℕ) (last : ℕ) (logs : List StoreLog) (value : OpenStoreValue C) (files : Files)
+    : Type 0 where
+  pub tables : List LiveTable
+  pub each : (table : LiveTable) → Contains tables table
+      → HasTable store cmp (IsTableOf cmp meaning) files table
+      × Contains value.set.full.added table.file
+  pub entries : SameEntries (table_entries tables ++ value.mem.entries) (log_entries logs)
+  pub last_is : value.set.last_sequence ≡ max last (greatest (log_entries logs))
+
 module _ {E F : Type 0} (env : Ghosts E F) (format : Format) (store : List ℕ)
     (set : VersionSetValue) (logs : List ℕ) (from : E) where
   -- the store was recovered with these contents
@@ -662,6 +696,15 @@ module _ {E F D FP : Type 0} (env : Ghosts E F) {order : CmpGhosts D} {filters :
         → AreTablesThere store (env.observed to).disk.files value.set.full.added)
     pub manifest : IfOk result (λ value. IsTrue env.models_disk
         → IsManifestThere (env.observed to).disk.files value.set)
+    -- whatever the files are, each live file is live still
+    pub live : IfOk result (λ value. IsTrue env.models_disk → (file : NewFile)
+        → Contains set.full.added file → Contains value.set.full.added file)
+    -- and the logs are batches in order, whose entries are in memory and in live tables
+    pub replayed : IfOk result (λ value. IsTrue env.models_disk → (meaning : Meaning)
+        → Agrees choices.format meaning → (them : List StoreLog)
+        × AreLogs store (env.observed from).disk.files logs them
+        × HoldsLogs choices.format.order meaning store set.last_sequence them value
+        (env.observed to).disk.files)
     pub keeps : IsTrue env.models_disk → (meaning : Meaning) → Agrees choices.format meaning
         → (contents : Contents)
         → WasRecovered env choices.format store set logs from meaning contents

@@ -30,6 +30,7 @@ use Rattle.leveldb_store.specs.Logs.FoundLogs.{HasLogNotKept, LogsBeginWith}
 use Rattle.leveldb_files.specs.Stores.Format.{Agrees, Format, IsTableOf, Meaning}
 use Rattle.leveldb_store.specs.Keeping.KeptBytes.{LosesNothing, TableNumbersAreBelow}
 use Rattle.leveldb_store.specs.Keeping.OpenStore.{IsUnbroken, OpenStoreValue}
+use Rattle.leveldb_store.specs.Openings.FoundFiles.{HoldsFoundLogs, IsEachLive}
 use Rattle.leveldb_store.specs.Writing.Room.{IsFull}
 use Rattle.leveldb_store.specs.Keeping.Written.{IsDataPath, IsWritten}
 
@@ -240,6 +241,17 @@ module _ {E F : Type 0} (env : Ghosts E F) (store : List ℕ) (format : Format)
     -- and so is the manifest
     pub manifest : IfOk result (λ value. IsTrue env.models_disk
         → IsManifestThere (env.observed to).disk.files value.set)
+    -- whatever the files are, each one that the manifest's edits leave live is live still
+    pub live : IfOk result (λ value. IsTrue env.models_disk → (edits : List Edit)
+        → HasEdits store (env.observed from).disk.files edits
+        → IsEachLive edits value.set.full.added)
+    -- and the logs that they have replayed are batches in order, whose entries are in memory and in
+    -- live tables
+    pub replayed : IfOk result (λ value. IsTrue env.models_disk → (meaning : Meaning)
+        → Agrees format meaning → (edits : List Edit)
+        → HasEdits store (env.observed from).disk.files edits
+        → HoldsFoundLogs format.order meaning store edits (env.observed from).disk.files value
+        (env.observed to).disk.files)
     -- of files that are sound it keeps each history, and opens the store that they are or a new one
     pub keeps : IsTrue env.models_disk → (meaning : Meaning) → Agrees format meaning
         → (contents : Contents)

@@ -13,10 +13,13 @@ use Rattle.leveldb_files.specs.Stores.Contents.{Contents}
 use Rattle.leveldb_files.specs.Stores.Format.{Agrees, Format, IsTableOf, Meaning}
 use Rattle.leveldb_files.specs.Histories.Holds.{MatchesHistory}
 use Rattle.leveldb_files.specs.Stores.Paths.{current_path}
-use Rattle.leveldb_files.specs.Stores.Store.{IsStore}
+use Rattle.leveldb_files.specs.Edits.Edit.{Edit}
+use Rattle.leveldb_files.specs.Edits.VersionSet.{ListsFiles, live_after}
+use Rattle.leveldb_files.specs.Stores.Store.{HasEdits, IsStore}
 use Rattle.leveldb_version_set.specs.Sets.VersionSetValue.{broken}
 use Rattle.leveldb_store.specs.Logs.FoundLogs.{AreLogsTooLarge}
 use Rattle.leveldb_store.specs.Keeping.OpenStore.{OpenStoreValue}
+use Rattle.leveldb_store.specs.Openings.FoundFiles.{AreFoundEntries}
 use Rattle.leveldb_store.specs.Openings.OpeningSteps.{IsUnsupported}
 use Rattle.leveldb_store.specs.Openings.OpensStore.{AreTablesThere, HasOtherComparator, IsDamaged, LacksUsableEdits}
 use Rattle.leveldb_store.specs.Keeping.Written.{HasView}
@@ -37,6 +40,16 @@ pub record IsReadAs {C : Type 0} (cmp : List ℕ → List ℕ → Ordering) (mea
   pub shows : (history : History)
       → MatchesHistory (λ any. Unit {0}) contents.last contents history
       → HasView cmp meaning value files history (greatest (entries_of history))
+
+-- What is read of files whose manifest has these edits, whatever else they are: the live files are
+-- those that the edits leave, whose tables are there, and in memory are the entries of the logs
+-- that the edits have replayed.
+pub record ReadsFound {C : Type 0} (store : List ℕ) (edits : List Edit) (files : Files)
+    (value : OpenStoreValue C) : Type 0 where
+  pub live : ListsFiles (live_after edits) value.set.full.added
+  pub there : AreTablesThere store files value.set.full.added
+  pub entries : AreFoundEntries store files edits value.mem.entries value.set.last_sequence
+  pub none_waits : value.imm ≡ None
 
 -- ---- the call
 
@@ -89,6 +102,10 @@ module _ {E F : Type 0} (env : Ghosts E F) (store : List ℕ) (format : Format) 
         (env.observed from).disk.files contents
         → IfOk result (λ value. IsReadAs format.order meaning contents value
         (env.observed from).disk.files)
+    -- whatever the files are, what they have is read
+    pub found : IfOk result (λ value. IsTrue env.models_disk → (edits : List Edit)
+        → HasEdits store (env.observed from).disk.files edits
+        → ReadsFound store edits (env.observed from).disk.files value)
     -- a store without `CURRENT` isn't opened
     pub missing : IsTrue env.models_disk
         → (env.observed from).disk.files (current_path store) ≡ None → OnOk result ⊥

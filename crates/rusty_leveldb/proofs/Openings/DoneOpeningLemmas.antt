@@ -80,7 +80,9 @@ module _ {E C FP F P : Type 0} {B : Boxed} {keys : InternalOrder C} {key_filters
     (tells : ChangesLoggerOnly options engine.options) (cmp : first.cmp ≡ options.cmp)
     (ignores : (a b : OptionsOf C FP B) → ChangesLoggerOnly a b → formats_of choices b ≡ formats_of choices a)
     (asked_is : formats_of choices options ≡ asked.format)
-    (counted : env.failures taken ≡ env.failures from) (is_limit : limit ≡ options.write_buffer_size)
+    (counted : env.failures taken ≡ env.failures from)
+    (in_time : (env.observed from).moment ≤ (env.observed taken).moment)
+    (is_limit : limit ≡ options.write_buffer_size)
     (well : IsStoreName store × IsTrue asked.fits × IsTrue asked.compresses) where
   abbrev formats : OptionsOf C FP B → Format
   formats = formats_of choices
@@ -289,6 +291,9 @@ module _ {E C FP F P : Type 0} {B : Boxed} {keys : InternalOrder C} {key_filters
       opened = first;
       at = opened;
       tables = cache;
+      begins = λ modelled. (took modelled).run;
+      in_time = in_time;
+      uncounted = (counted, opens_count);
       opens = subst (λ (n : ℕ). OpensStore env store asked.format asked.create_if_missing
           asked.error_if_exists taken n (Ok first) opened) is_limit opens_first;
       ends = ends;

@@ -134,6 +134,7 @@ module _ {E C FP F : Type 0} {B : Boxed} {keys : InternalOrder C} (env : Ghosts 
   alone_early e why = record {
     finds = tt;
     reads = tt;
+    found = tt;
     place = tt;
     options_are = tt;
     still = disk_still env from;
@@ -156,6 +157,7 @@ module _ {E C FP F : Type 0} {B : Boxed} {keys : InternalOrder C} (env : Ghosts 
     alone_fails e well opens fails = record {
       finds = tt;
       reads = tt;
+      found = tt;
       place = tt;
       options_are = tt;
       still = record { disk = opens.still; locks = opens.locks };
@@ -317,6 +319,7 @@ module _ {E C FP F : Type 0} {B : Boxed} {keys : InternalOrder C} (env : Ghosts 
           finds = λ modelled meaning agrees old stands. finds modelled meaning agrees old stands;
           reads = λ modelled meaning agrees history last c.
               reads modelled meaning agrees history last c;
+          found = opens.found;
           place = opens.path;
           options_are = same_options;
           still = record { disk = opens.still; locks = opens.locks };

@@ -1,5 +1,5 @@
 -- What a compaction of its store leaves of an engine.
-use Rattle.std.specs.Prelude.{◌≡◌, ℕ, List, Ok, Result}
+use Rattle.std.specs.Prelude.{◌≡◌, ◌≤◌, ℕ, IsTrue, List, Ok, Result}
 use Rattle.leveldb_base.specs.declared.error.Status.{Status}
 use Rattle.leveldb_env.specs.declared.env.Env.{Ghosts}
 use Rattle.leveldb_env.specs.declared.filter.FilterPolicy.{Ghosts as FilterGhosts}
@@ -18,6 +18,7 @@ use Rattle.rusty_leveldb.specs.Engines.Boxes.{EngineOf, InternalOrder}
 use Rattle.rusty_leveldb.specs.Engines.Engine.{formats_of, engine_options, tables_by}
 use Rattle.rusty_leveldb.specs.Engines.EngineValue.{FollowsStore}
 use Rattle.rusty_leveldb.specs.Machines.State.{Opening}
+use Rattle.rusty_leveldb.specs.Openings.Unopened.{MakesLockAlone}
 
 -- nothing of an engine changes but its store, the open tables, the mode, and the sink of the
 -- options' log
@@ -50,18 +51,26 @@ pub record EngineCompactsStore {E C FP F P : Type 0} {B : Boxed} {keys : Interna
   -- it is broken where the store is
   pub mode : FollowsStore after.mode after.store
 
--- How an opening that gave an engine ended: its files were opened as a store, and then one
--- compaction was done at most, for which the score of a level asks.
+-- How an opening that gave an engine went: its lock was taken and nothing else was done, then its
+-- files were opened as a store, and then one compaction was done at most, for which the score of a
+-- level asks.
 pub record EngineEndsOpening {E C FP F P : Type 0} {B : Boxed} {keys : InternalOrder C}
     {key_filters : FilterGhosts P} (env : Ghosts E F)
     (choices : OptionsOf C FP B → TableChoices keys key_filters) (name : List ℕ)
-    (options : OptionsOf C FP B) (asked : Opening) (engine : EngineOf E C FP F B) (to : E)
-    : Type 0 where
+    (options : OptionsOf C FP B) (asked : Opening) (from : E) (engine : EngineOf E C FP F B)
+    (to : E) : Type 0 where
   -- the environment once the lock was taken, and once this store was opened, with its open tables
   pub taken : E
   pub opened : OpenStoreValue C
   pub at : E
   pub tables : TableCache E C FP F
+  -- from the call on until the lock was taken all files stayed, but that the lock's may be made
+  pub begins : IsTrue env.models_disk
+      → MakesLockAlone name (env.observed from) (env.observed taken)
+  -- whatever is observed, no moment was taken back until then
+  pub in_time : (env.observed from).moment ≤ (env.observed taken).moment
+  -- nor had a call of the device failed by then, or by the time that the store was opened
+  pub uncounted : (env.failures taken ≡ env.failures from) × (env.failures at ≡ env.failures taken)
   pub opens : OpensStore env name asked.format asked.create_if_missing asked.error_if_exists taken
       options.write_buffer_size (Ok opened) at
   pub ends : EndsOpening keys env (table_options (formats_of choices options) options) opened at

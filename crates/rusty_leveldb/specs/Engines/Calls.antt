@@ -459,9 +459,11 @@ module _ {E C FP F P : Type 0} {B : Boxed} {keys : InternalOrder C} {key_filters
         × Opens old opening new
         × AreReadAs name meaning (env.observed from).disk.files new.history new.last)
     pub opened : IfOk result (IsOpened env (formats_of choices) name options)
-    -- Ok: after its files were opened one compaction was done at most. It is done where the score
-    -- of a level asks for it, and takes a file of that level, unless it fails for a cause.
-    pub ends : IfOk result (λ engine. EngineEndsOpening env choices name options asked engine to)
+    -- Ok: its files were opened as they were at the call, but for the file of its lock, and after
+    -- that one compaction was done at most. It is done where the score of a level asks for it, and
+    -- takes a file of that level, unless it fails for a cause.
+    pub ends : IfOk result (λ engine. EngineEndsOpening env choices name options asked from engine
+        to)
     -- the lock was free, and is held
     pub held : OnOk result (IsTrue env.models_disk
         → (IsLockHeld name (env.observed from).disk → ⊥)

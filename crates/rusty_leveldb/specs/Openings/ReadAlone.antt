@@ -28,10 +28,12 @@ use Rattle.leveldb_files.specs.Stores.Batches.{Each}
 use Rattle.leveldb_files.specs.Stores.Contents.{made}
 use Rattle.leveldb_files.specs.Stores.Format.{Agrees, Format, IsTableFault, LacksCompressor, Meaning, format_of}
 use Rattle.leveldb_files.specs.Stores.Paths.{current_path}
+use Rattle.leveldb_files.specs.Stores.Store.{HasEdits}
+use Rattle.leveldb_files.specs.Edits.Edit.{Edit}
 use Rattle.leveldb_version.specs.Tables.TableCache.{TableOptions, files_at, table_options}
 use Rattle.leveldb_version.specs.declared.table_cache.moves.ReadTables.{ReadTables}
 use Rattle.leveldb_store.specs.Openings.OpensStore.{LacksUsableEdits}
-use Rattle.leveldb_store.specs.Openings.OpensToRead.{WhyNotReadable}
+use Rattle.leveldb_store.specs.Openings.OpensToRead.{ReadsFound, WhyNotReadable}
 use Rattle.rusty_leveldb.specs.Engines.Boxes.{InternalOrder, ReaderOf}
 use Rattle.rusty_leveldb.specs.Machines.Causes.{Cause, IsCausedBy}
 use Rattle.rusty_leveldb.specs.Engines.Engine.{IsOpening, IsStoreName}
@@ -247,6 +249,11 @@ module _ {E C FP F : Type 0} {B : Boxed} (keys : InternalOrder C) (env : Ghosts 
         → AreReadAs name meaning (files_at env from) history last
         → (reader.store.set.last_sequence ≡ last)
         × ReadsHistory keys env formats meaning reader (files_at env to) history)
+    -- Whatever the files are, it reads what they have: its live tables are there and are those of
+    -- the manifest that `CURRENT` names, and it has the entries of the logs that are replayed.
+    pub found : IfOk result (λ reader. IsTrue env.models_disk → (edits : List Edit)
+        → HasEdits name (files_at env from) edits
+        → ReadsFound name edits (files_at env from) reader.store)
     -- it is the store of this name, with these options
     pub place : IfOk result (λ reader. reader.store.set.store ≡ name)
     pub options_are : IfOk result (λ reader. reader_options reader ≡ options)

@@ -145,7 +145,8 @@ returns-in_default g c = done_opens g.E.Env _ c.args.name.now c.args.options
     c.in_default.ensures.ends refl c.new-in-Ok.ensures c.in_ok-lock.ensures.ok
     (record { rest = refl; sink = c.end_opening-ended.ensures.log ∙ ap is_some c.take-log.ensures.value }) c.in-Ok.ensures.cmp
     (λ a b is. ap (format_of g.C.Cmp g.FP.FilterPolicy (compressors g.dyn-2).codings) is.rest) refl
-    (c.in_ok-lock-2.ensures.cause.ok ∙ c.in_ok-mkdir.ensures.cause.ok) refl (
+    (c.in_ok-lock-2.ensures.cause.ok ∙ c.in_ok-mkdir.ensures.cause.ok)
+    (omega (arith, c.mkdir.ensures.does.time.later, c.in_ok-lock-2.ensures.does.time.later)) refl (
       c.in_ok-check_name.ensures.ok,
       within_is c.args.options c.in_ok-check.ensures.limits,
       c.in_ok-check.ensures.compressor,
