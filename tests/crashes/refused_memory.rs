@@ -1,6 +1,7 @@
-//! Scripts of a store one of whose requests for memory may be refused. `tools/refuse` refuses each
-//! in turn; then the call that met the refusal is made again, each reply is one that the slow store
-//! gives after the refusal, and a test whose calls were all right ends with it.
+//! Scripts of a store whose requests for memory may be refused: `./test` refuses one of each call,
+//! and `tools/refuse` each of all in turn. All that the store shows then is what the slow store
+//! allows, and so is what it shows after other changes; the call that met the refusal is made
+//! again, and a test whose calls were all right ends with the refusal.
 use super::crash_disks::{DEFAULTS, Setting, add_calls, judge_all, options_of};
 use super::replies::refusal;
 use super::steps::{Call, Change, Step, commands_of, judge, shell_moves, written_by};
@@ -12,13 +13,12 @@ use leveldb_env::env::Env;
 use leveldb_env::filter::BloomPolicy;
 use leveldb_env::mem_env::{MemEnv, Pick};
 use rusty_leveldb::db_impl::Engine;
-use rusty_leveldb::shell::{Life, Reply, Report, lives};
+use rusty_leveldb::shell::{Life, Move as ShellMove, Reply, Report, lives};
 use rusty_leveldb::{Snapshot, WriteBatch};
-use slow_history::Move;
 use slow_machine::SlowStore;
 use std::alloc::{AllocError, Global};
 use std::process::Abort;
-use support::CountedAppends;
+use support::{CountedAppends, Marks};
 
 type Device = CountedAppends<MemEnv>;
 
@@ -33,7 +33,16 @@ struct Trial {
     slow: SlowStore,
     /// The snapshots that were taken; none in place of one that was released.
     taken: Vec<Option<Snapshot>>,
+    marks: Marks,
     refused: usize,
+}
+
+/// A step, and what it gives the call: the test takes no memory in the call then.
+#[derive(Drop)]
+struct Prepared {
+    step: Step,
+    batch: WriteBatch,
+    moves: Vec<ShellMove>,
 }
 
 fn is_of_memory(status: &Status) -> bool {
@@ -73,15 +82,16 @@ impl Trial {
             setting,
             slow: SlowStore::new(alloc)?,
             taken: Vec::new(alloc),
+            marks: Marks::new(alloc),
             refused: 0,
         })
     }
 
-    /// Counts a call that found no memory: there is one at most, and it says nothing more.
-    fn count(&mut self, rt: &impl Abort, status: &Status) {
+    /// Counts a call that failed: a request of it was refused, and it says nothing more.
+    fn count(&mut self, rt: &impl Abort, status: &Status, was_refused: bool) {
         self.refused = self.refused.saturating_add(1);
         assert!(rt;
-            is_of_memory(status) && has_no_text(status) && self.refused == 1,
+            was_refused && is_of_memory(status) && has_no_text(status),
             "{status:?}"
         );
     }
@@ -92,21 +102,26 @@ impl Trial {
 
     /// Opens the store. An opening that finds no memory leaves the lock free.
     fn open(&mut self, rt: &impl Abort) -> Result<DefaultEngine> {
+        self.marks.begin();
         let mut opened = self.open_once();
+        let was_refused = self.marks.end();
         if let Err(status) = &opened {
-            self.count(rt, status);
+            self.count(rt, status, was_refused);
             self.slow.was_closed()?;
             assert!(rt; self.env.lock("db/LOCK").is_ok() && self.env.unlock("db/LOCK").is_ok());
             opened = self.open_once();
         }
         assert!(rt; opened.is_ok());
+        let mut engine = opened?;
         self.slow.opened()?;
         self.taken.clear();
-        opened
+        if was_refused {
+            self.assert_views(rt, &mut engine)?;
+        }
+        Ok(engine)
     }
 
     fn snapshot(&mut self, engine: &mut DefaultEngine) -> Result<Reply> {
-        self.taken.reserve(1)?;
         Ok(match engine.get_snapshot() {
             Ok(snapshot) => {
                 self.taken.push(Some(snapshot))?;
@@ -137,17 +152,14 @@ impl Trial {
         &mut self,
         engine: &mut DefaultEngine,
         at: Option<usize>,
-        moves: &[Move<'_>],
-    ) -> Result<Reply> {
-        let asked = shell_moves(self.alloc, moves)?;
+        moves: &[ShellMove],
+    ) -> Reply {
         let snapshot = self.taken_at(at);
         let mut led = Vec::new(self.alloc);
-        Ok(
-            match engine.walk(&mut self.env, snapshot, &asked, &mut led) {
-                Ok(()) => Reply::Walk(led),
-                Err(status) => Reply::Refused(status),
-            },
-        )
+        match engine.walk(&mut self.env, snapshot, moves, &mut led) {
+            Ok(()) => Reply::Walk(led),
+            Err(status) => Reply::Refused(status),
+        }
     }
 
     fn release(&mut self, engine: &mut DefaultEngine, number: usize) -> Reply {
@@ -158,37 +170,57 @@ impl Trial {
         reply_of(engine.release_snapshot(snapshot))
     }
 
-    fn write(
-        &mut self,
-        engine: &mut DefaultEngine,
-        sync: bool,
-        changes: &[Change],
-    ) -> Result<Reply> {
-        let batch = batch_of(self.alloc, changes)?;
-        Ok(reply_of(engine.write(&mut self.env, batch, sync)))
-    }
-
     fn compact(&mut self, engine: &mut DefaultEngine, from: &str, to: &str) -> Reply {
         reply_of(engine.compact_range(&mut self.env, from.as_bytes(), to.as_bytes()))
     }
 
-    /// What an open store replies to a step. Err: the test itself found no memory.
-    fn reply(&mut self, engine: &mut DefaultEngine, step: &Step) -> Result<Reply> {
+    fn prepare(&mut self, step: &Step) -> Result<Prepared> {
+        let mut prepared = Prepared {
+            step: *step,
+            batch: WriteBatch::new(self.alloc)?,
+            moves: Vec::new(self.alloc),
+        };
+        match step {
+            Step::Write(_, changes) => prepared.batch = batch_of(self.alloc, *changes)?,
+            Step::Walk(_, moves) => prepared.moves = shell_moves(self.alloc, *moves)?,
+            _ => self.taken.reserve(1)?,
+        }
+        Ok(prepared)
+    }
+
+    /// What an open store replies.
+    fn make(&mut self, engine: &mut DefaultEngine, prepared: Prepared) -> Result<Reply> {
+        let Prepared { step, batch, moves } = prepared;
         Ok(match step {
             Step::Put(key, value) => {
                 reply_of(engine.put(&mut self.env, key.as_bytes(), value.as_bytes()))
             }
             Step::Delete(key) => reply_of(engine.delete(&mut self.env, key.as_bytes())),
-            Step::Write(sync, changes) => self.write(engine, *sync, *changes)?,
-            Step::Compact(from, to) => self.compact(engine, *from, *to),
+            Step::Write(sync, _) => reply_of(engine.write(&mut self.env, batch, sync)),
+            Step::Compact(from, to) => self.compact(engine, from, to),
             Step::Flush => reply_of(engine.flush(&mut self.env)),
-            Step::Get(key) => self.look_up(engine, None, *key),
-            Step::GetAt(number, key) => self.look_up(engine, Some(*number), *key),
-            Step::Walk(at, moves) => self.walk(engine, *at, *moves)?,
+            Step::Get(key) => self.look_up(engine, None, key),
+            Step::GetAt(number, key) => self.look_up(engine, Some(number), key),
+            Step::Walk(at, _) => self.walk(engine, at, &moves),
             Step::Snap => self.snapshot(engine)?,
-            Step::Release(number) => self.release(engine, *number),
+            Step::Release(number) => self.release(engine, number),
             Step::Open | Step::Close | Step::Abandon => Reply::Done,
         })
+    }
+
+    /// What an open store replies to a step. Err: the test itself found no memory.
+    fn reply(&mut self, engine: &mut DefaultEngine, step: &Step) -> Result<Reply> {
+        let prepared = self.prepare(step)?;
+        self.make(engine, prepared)
+    }
+
+    /// What it replies where a request of the call may be refused, and whether one was.
+    fn marked_reply(&mut self, engine: &mut DefaultEngine, step: &Step) -> Result<(Reply, bool)> {
+        let prepared = self.prepare(step)?;
+        self.marks.begin();
+        let reply = self.make(engine, prepared);
+        let was_refused = self.marks.end();
+        Ok((reply?, was_refused))
     }
 
     /// The slow store allows this reply.
@@ -223,32 +255,61 @@ impl Trial {
         for number in 0..=self.taken.len() {
             let step = Step::Walk(number.checked_sub(1), OVER_ALL);
             if self.has_snapshot(&step) {
-                let reply = self.reply(engine, &step)?;
-                assert!(rt; refusal(&reply).is_none(), "{step:?}: {reply:?}");
-                self.assert_reply(rt, &step, &reply)?;
+                self.call_again(rt, engine, &step)?;
             }
         }
         Ok(())
     }
 
-    /// Makes a call. One that finds no memory is made again, and then isn't refused.
-    fn call(&mut self, rt: &impl Abort, engine: &mut DefaultEngine, step: &Step) -> Result<()> {
-        let begun = self.env.rule.begun;
+    /// Makes a call that finds memory.
+    fn call_again(
+        &mut self,
+        rt: &impl Abort,
+        engine: &mut DefaultEngine,
+        step: &Step,
+    ) -> Result<()> {
         let reply = self.reply(engine, step)?;
-        let Some(status) = refusal(&reply) else {
-            return self.assert_reply(rt, step, &reply);
-        };
-        self.count(rt, status);
+        assert!(rt; refusal(&reply).is_none(), "{step:?}: {reply:?}");
+        self.assert_reply(rt, step, &reply)
+    }
+
+    /// A call failed. Returns once the store is open again.
+    fn assert_failed(
+        &mut self,
+        rt: &impl Abort,
+        engine: &mut DefaultEngine,
+        step: &Step,
+        reply: &Reply,
+        begun: usize,
+    ) -> Result<()> {
         if self.env.rule.begun == begun && !is_read(step) {
             self.assert_open(rt, engine, step)?;
         } else {
-            self.assert_reply(rt, step, &reply)?;
+            self.assert_reply(rt, step, reply)?;
         }
-        self.mend(rt, engine)?;
+        self.mend(rt, engine)
+    }
+
+    /// Makes a call. Of one that found no memory nothing is left, also where other changes get the
+    /// numbers that its entries would have; it is made again then.
+    fn call(&mut self, rt: &impl Abort, engine: &mut DefaultEngine, step: &Step) -> Result<()> {
+        let begun = self.env.rule.begun;
+        let (reply, was_refused) = self.marked_reply(engine, step)?;
+        let Some(status) = refusal(&reply) else {
+            self.assert_reply(rt, step, &reply)?;
+            if was_refused {
+                self.assert_views(rt, engine)?;
+            }
+            return Ok(());
+        };
+        self.count(rt, status, was_refused);
+        self.assert_failed(rt, engine, step, &reply, begun)?;
         self.assert_views(rt, engine)?;
-        let again = self.reply(engine, step)?;
-        assert!(rt; refusal(&again).is_none(), "{step:?}: {again:?}");
-        self.assert_reply(rt, step, &again)
+        if !is_read(step) {
+            self.call_again(rt, engine, &OTHERS)?;
+            self.assert_views(rt, engine)?;
+        }
+        self.call_again(rt, engine, step)
     }
 
     /// Opens the store, makes these calls and those, and abandons it, which takes no memory.
@@ -290,6 +351,17 @@ fn is_read(step: &Step) -> bool {
     )
 }
 
+/// Changes that leave each map as it was, and take as many numbers as any batch here.
+const OTHERS: Step = Step::Write(
+    false,
+    &[
+        ("m", Some("1")),
+        ("m", Some("2")),
+        ("m", Some("3")),
+        ("m", None),
+    ],
+);
+
 /// What is asked besides, with the snapshot that is held.
 const MORE: &[Step] = &[
     Step::GetAt(0, "a"),
@@ -325,6 +397,83 @@ fn a_script_and_a_reopening_with_new_logs(rt: HostRuntime) -> Result<()> {
     setting.reuses = false;
     let mut trial = Trial::new(rt.alloc(), setting)?;
     trial.live(&rt, STEPS, MORE)?;
+    trial.live(&rt, LATER, &[])?;
+    trial.end()
+}
+
+/// Fills a memtable's room in a few entries.
+const LONG: &str =
+    "a value of some length, so that the room for entries is used up amid a batch too";
+
+/// Batches of several entries, in one memtable.
+const BATCHES: &[Step] = &[
+    Step::Write(
+        false,
+        &[("a", Some(LONG)), ("b", Some("1")), ("c", Some(LONG))],
+    ),
+    Step::Write(
+        true,
+        &[
+            ("d", Some(LONG)),
+            ("a", None),
+            ("b", Some(LONG)),
+            ("e", Some("2")),
+        ],
+    ),
+    Step::Snap,
+    Step::Write(false, &[("c", None), ("f", Some(LONG)), ("e", Some(LONG))]),
+    Step::Write(
+        false,
+        &[
+            ("g", Some(LONG)),
+            ("a", Some("3")),
+            ("h", Some(LONG)),
+            ("d", None),
+        ],
+    ),
+    Step::Write(
+        false,
+        &[("i", Some(LONG)), ("b", Some("4")), ("c", Some(LONG))],
+    ),
+    Step::Write(
+        true,
+        &[
+            ("j", Some(LONG)),
+            ("k", Some(LONG)),
+            ("g", None),
+            ("l", Some(LONG)),
+        ],
+    ),
+    Step::Walk(Some(0), OVER_ALL),
+];
+
+#[test]
+fn batches_in_one_memtable(rt: HostRuntime) -> Result<()> {
+    let mut trial = Trial::new(rt.alloc(), DEFAULTS)?;
+    trial.live(&rt, BATCHES, &[])?;
+    trial.live(&rt, LATER, &[])?;
+    trial.end()
+}
+
+/// Writes each of which makes a table, so that some compact level 0.
+const TABLES: &[Step] = &[
+    Step::Write(false, &[("a", Some("1")), ("b", Some("2"))]),
+    Step::Snap,
+    Step::Put("c", "3"),
+    Step::Write(false, &[("a", None), ("d", Some("4"))]),
+    Step::Put("a", "5"),
+    Step::Delete("b"),
+    Step::Put("c", "6"),
+    Step::Write(true, &[("b", Some("7")), ("e", Some("8"))]),
+    Step::Walk(Some(0), OVER_ALL),
+];
+
+#[test]
+fn compactions_in_writes(rt: HostRuntime) -> Result<()> {
+    let mut setting = DEFAULTS;
+    setting.write_buffer_size = 1;
+    let mut trial = Trial::new(rt.alloc(), setting)?;
+    trial.live(&rt, TABLES, &[])?;
     trial.live(&rt, LATER, &[])?;
     trial.end()
 }
@@ -387,12 +536,15 @@ fn life(
 
 /// The script, a life that a crash takes back to its start, and one that looks at what the crash
 /// left.
-fn three_lives(alloc: Global) -> Result<Vec<Report>> {
+fn three_lives(alloc: Global, marks: &mut Marks) -> Result<Vec<Report>> {
     let mut all = Vec::new(alloc);
     all.push(life(alloc, STEPS, None)?)?;
     all.push(life(alloc, LOOK_UPS, Some(0))?)?;
     all.push(life(alloc, LOOK_UPS, None)?)?;
-    lives(alloc, "db", all)
+    marks.begin();
+    let reports = lives(alloc, "db", all);
+    let _ = marks.end();
+    reports
 }
 
 fn calls_of(alloc: Global, report: Option<Report>, steps: &[Step]) -> Result<Vec<Call>> {
@@ -427,7 +579,8 @@ fn assert_calls(
 #[test]
 fn lives_of_a_script(rt: HostRuntime) -> Result<()> {
     let alloc = rt.alloc();
-    let mut reports = three_lives(alloc)?;
+    let mut marks = Marks::new(alloc);
+    let mut reports = three_lives(alloc, &mut marks)?;
     let third = calls_of(alloc, reports.pop(), LOOK_UPS)?;
     let second = calls_of(alloc, reports.pop(), LOOK_UPS)?;
     let first = calls_of(alloc, reports.pop(), STEPS)?;

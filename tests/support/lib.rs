@@ -1,12 +1,13 @@
 //! What suites of several crates share: questions to answers, changed bytes, the files of a store,
-//! a list to walk over, numbers that look random, compressors, devices, and a log that expects a
-//! line.
+//! a list to walk over, numbers that look random, compressors, devices, marks around calls, and a
+//! log that expects a line.
 
 mod answers;
 mod compressors;
 mod damage;
 mod folder;
 mod lists;
+mod marks;
 mod random;
 mod ruled;
 mod sinks;
@@ -19,6 +20,7 @@ pub use folder::{
     lose_manifest, put_file,
 };
 pub use lists::Listed;
+pub use marks::Marks;
 pub use random::Random;
 pub use ruled::{CountedAppends, OnlyReads, ShortReads};
 pub use sinks::Lines;
