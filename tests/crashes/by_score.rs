@@ -5,8 +5,8 @@ use super::crash_disks::{Script, Setting, Tails, assert_tally, record};
 use super::steps::Step;
 use super::sweep::{crash_everywhere, fail_everywhere};
 use leveldb_base::error::Result;
+use leveldb_disks::mem_env::RecordEnv;
 use leveldb_env::env::Env;
-use leveldb_env::mem_env::RecordEnv;
 use slow_history::Move;
 use std::alloc::Global;
 

@@ -7,8 +7,8 @@ use super::crash_disks::{
 use super::replies::is_map;
 use super::steps::{Call, Step};
 use leveldb_base::error::{Result, StatusCode};
+use leveldb_disks::mem_env::RecordEnv;
 use leveldb_env::env::whole_files::read_file;
-use leveldb_env::mem_env::RecordEnv;
 use rusty_leveldb::db_impl::Engine;
 use rusty_leveldb::shell::Reply;
 use slow_history::BorrowedPair;

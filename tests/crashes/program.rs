@@ -1,6 +1,6 @@
 //! The program over a disk in memory, with readers and writers that refuse.
 use leveldb_base::error::Result;
-use leveldb_env::disk_env::PosixDiskEnv;
+use leveldb_disks::disk_env::PosixDiskEnv;
 use leveldb_env::env::Env;
 use leveldb_env::infolog::Logger;
 use leveldb_env::mem_env::MemEnv;

@@ -1,7 +1,7 @@
 //! The program over a folder of the system, as over memory: its data stay from run to run.
 use super::program::assert_run;
 use leveldb_base::error::{Result, StatusCode};
-use leveldb_env::disk_env::PosixDiskEnv;
+use leveldb_disks::disk_env::PosixDiskEnv;
 use leveldb_env::env::Env;
 use leveldb_env::mem_env::MemEnv;
 use std::alloc::Global;

@@ -10,7 +10,7 @@ use super::replies::{are_same, is_any_map};
 use super::steps::{Call, Step};
 use leveldb_base::cmp::DefaultCmp;
 use leveldb_base::error::{Result, StatusCode};
-use leveldb_env::mem_env::RecordEnv;
+use leveldb_disks::mem_env::RecordEnv;
 use rusty_leveldb::db_impl::Engine;
 use rusty_leveldb::shell::{Reply, Step as ShellStep};
 use slow_history::BorrowedPair;

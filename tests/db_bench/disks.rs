@@ -2,7 +2,7 @@
 
 use leveldb_base::names::{file_name_parts, lock_file_name};
 use leveldb_base::types::FileType;
-use leveldb_env::disk_env::PosixDiskEnv;
+use leveldb_disks::disk_env::PosixDiskEnv;
 use leveldb_env::env::Env;
 use rusty_leveldb::{MemEnv, Result};
 use std::alloc::Global;

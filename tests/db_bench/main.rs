@@ -2,7 +2,7 @@
 //! What was done goes to standard output, how long it took to standard error.
 #![tactic(auto)]
 
-use leveldb_env::disk_env::reserve_descriptors;
+use leveldb_disks::disk_env::reserve_descriptors;
 use program::bench_main;
 use std::process::ExitCode;
 use std::{env, io};

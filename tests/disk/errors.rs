@@ -1,7 +1,7 @@
 //! The errors that a folder can be made to give.
 use super::calls::{Call, code_of};
 use leveldb_base::error::{Result, Status, StatusCode};
-use leveldb_env::disk_env::PosixDiskEnv;
+use leveldb_disks::disk_env::PosixDiskEnv;
 use leveldb_env::env::Env;
 use std::alloc::Global;
 use std::fs::{self, Permissions};

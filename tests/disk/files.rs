@@ -1,7 +1,7 @@
 //! What each call does to real files.
 use super::calls::{Call, shown};
 use leveldb_base::error::{Result, StatusCode};
-use leveldb_env::disk_env::{PosixDiskEnv, reserve_descriptors};
+use leveldb_disks::disk_env::{PosixDiskEnv, reserve_descriptors};
 use leveldb_env::env::Env;
 use std::alloc::Global;
 

@@ -1,7 +1,7 @@
 //! Strange names in a folder, and what is made of it.
 use super::calls::{Call, shown};
 use leveldb_base::error::{Result, StatusCode};
-use leveldb_env::disk_env::PosixDiskEnv;
+use leveldb_disks::disk_env::PosixDiskEnv;
 use leveldb_env::env::Env;
 use std::alloc::Global;
 use std::fs;

@@ -2,7 +2,7 @@
 use super::calls::{Call, code_of};
 use leveldb_base::error::Result;
 use leveldb_base::error::StatusCode::{self, LockError, OK};
-use leveldb_env::disk_env::PosixDiskEnv;
+use leveldb_disks::disk_env::PosixDiskEnv;
 use leveldb_env::env::Env;
 use std::alloc::Global;
 

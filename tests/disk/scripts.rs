@@ -1,7 +1,7 @@
 //! The same calls over memory and over real files.
 use super::calls::{Call, shown};
 use leveldb_base::error::Result;
-use leveldb_env::disk_env::PosixDiskEnv;
+use leveldb_disks::disk_env::PosixDiskEnv;
 use leveldb_env::env::Env;
 use leveldb_env::mem_env::MemEnv;
 use std::alloc::Global;

@@ -5,7 +5,7 @@
 mod stores;
 
 use leveldb_base::error::Result;
-use leveldb_env::disk_env::{PosixDiskEnv, reserve_descriptors};
+use leveldb_disks::disk_env::{PosixDiskEnv, reserve_descriptors};
 use leveldb_env::env::Env;
 use std::alloc::Global;
 use std::process::ExitCode;

@@ -3,8 +3,8 @@
 use super::disks::{Call, handle_of, names_of, no_tails, pick_of, run, run_all, show_file};
 use leveldb_base::error::StatusCode::{IOError, InvalidArgument, LockError, NotFound, OK};
 use leveldb_base::error::{Result, StatusCode};
+use leveldb_disks::mem_env::RecordEnv;
 use leveldb_env::env::Env;
-use leveldb_env::mem_env::RecordEnv;
 use std::alloc::Global;
 use std::process::Abort;
 use support::{code_of, failed_with};

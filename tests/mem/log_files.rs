@@ -1,9 +1,9 @@
 //! Logs in files: the bytes that they get, what a crash keeps of them, and calls that fail.
 
 use leveldb_base::error::{Result, Status, StatusCode};
+use leveldb_disks::mem_env::{MemEnv, Pick, RecordEnv};
 use leveldb_env::env::Env;
 use leveldb_env::env::whole_files::read_file;
-use leveldb_env::mem_env::{MemEnv, Pick, RecordEnv};
 use leveldb_mem::log::{LogFile, LogWriter};
 use std::alloc::{AllocError, Global};
 use std::process::Abort;

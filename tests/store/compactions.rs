@@ -4,8 +4,8 @@ use super::stores::{
 };
 use leveldb_base::cmp::DefaultCmp;
 use leveldb_base::error::{Result, StatusCode};
+use leveldb_disks::mem_env::{Pick, RecordEnv};
 use leveldb_env::env::Env;
-use leveldb_env::mem_env::{Pick, RecordEnv};
 use leveldb_env::options::Options;
 use rusty_leveldb::Snapshot;
 use rusty_leveldb::shell::{Move, Step};

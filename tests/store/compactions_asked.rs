@@ -3,9 +3,9 @@
 use super::stores::{DefaultOptions, STORE, count_tables, one_byte};
 use leveldb_base::cmp::DefaultCmp;
 use leveldb_base::error::Result;
+use leveldb_disks::mem_env::RecordEnv;
 use leveldb_env::env::Env;
 use leveldb_env::filter::BloomPolicy;
-use leveldb_env::mem_env::RecordEnv;
 use leveldb_env::options::Options;
 use leveldb_mem::write_batch::WriteBatch;
 use leveldb_store::open_store::OpenStore;

@@ -2,8 +2,8 @@
 use super::stores::{DefaultOptions, STORE, buffered, count_tables, one_byte, opened, reusing};
 use leveldb_base::cmp::DefaultCmp;
 use leveldb_base::error::{Result, StatusCode};
+use leveldb_disks::mem_env::{Pick, RecordEnv};
 use leveldb_env::env::Env;
-use leveldb_env::mem_env::{Pick, RecordEnv};
 use leveldb_env::options::Options;
 use slow_store::read_store;
 use std::alloc::Global;

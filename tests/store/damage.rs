@@ -2,8 +2,8 @@
 use super::stores::{DefaultOptions, STORE, buffered, has_files, opened, put_all, reopen, reusing};
 use leveldb_base::crc::{crc32, mask_crc};
 use leveldb_base::error::Result;
+use leveldb_disks::mem_env::RecordEnv;
 use leveldb_env::env::Env;
-use leveldb_env::mem_env::RecordEnv;
 use leveldb_env::options::Options;
 use leveldb_mem::log::{BLOCK_SIZE, LogWriter};
 use leveldb_store::damage::{LeftOut, left_out};

@@ -2,9 +2,9 @@
 use super::stores::one_byte;
 use leveldb_base::cmp::DefaultCmp;
 use leveldb_base::error::{Result, StatusCode};
+use leveldb_disks::mem_env::{MemEnv, Pick, RecordEnv};
 use leveldb_env::env::Env;
 use leveldb_env::filter::BloomPolicy;
-use leveldb_env::mem_env::{MemEnv, Pick, RecordEnv};
 use leveldb_env::options::Options;
 use leveldb_mem::write_batch::WriteBatch;
 use rusty_leveldb::db_impl::{DB, Engine, Store};

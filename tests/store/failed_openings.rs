@@ -1,8 +1,8 @@
 //! What is left of a store's files where its opening fails: each of them, with all its bytes.
 use super::stores::{STORE, buffered, opened, reusing};
 use leveldb_base::error::Result;
+use leveldb_disks::mem_env::{Pick, RecordEnv};
 use leveldb_env::env::Env;
-use leveldb_env::mem_env::{Pick, RecordEnv};
 use std::alloc::Global;
 use std::process::Abort;
 use support::{File, damage_file, file_bytes, files_on};

@@ -2,7 +2,7 @@
 use super::rooms::{self, Act};
 use super::stores::{buffered, opened};
 use leveldb_base::error::Result;
-use leveldb_env::mem_env::RecordEnv;
+use leveldb_disks::mem_env::RecordEnv;
 use std::alloc::Global;
 use std::process::Abort;
 

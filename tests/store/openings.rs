@@ -2,7 +2,7 @@
 use super::acts::{Act, Setting, play_each};
 use super::stores::{STORE, contents_of, has_files, opened, reopen, reusing, store_of};
 use leveldb_base::error::Result;
-use leveldb_env::mem_env::{Pick, RecordEnv};
+use leveldb_disks::mem_env::{Pick, RecordEnv};
 use leveldb_env::options::Options;
 use std::alloc::Global;
 use support::file_bytes;

@@ -7,9 +7,9 @@ use super::stores::{
 };
 use leveldb_base::cmp::DefaultCmp;
 use leveldb_base::error::{Result, StatusCode};
+use leveldb_disks::mem_env::{MemEnv, Pick, RecordEnv};
 use leveldb_env::env::Env;
 use leveldb_env::filter::BloomPolicy;
-use leveldb_env::mem_env::{MemEnv, Pick, RecordEnv};
 use leveldb_env::options::Options;
 use leveldb_mem::log::LogWriter;
 use rusty_leveldb::db_impl::{ReadOnlyEngine, open_read_only};

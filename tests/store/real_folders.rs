@@ -1,7 +1,7 @@
 //! Openings that fail before anything is changed, in memory and in folders of the system.
 use super::stores::DefaultOptions;
 use leveldb_base::error::{Result, StatusCode};
-use leveldb_env::disk_env::PosixDiskEnv;
+use leveldb_disks::disk_env::PosixDiskEnv;
 use leveldb_env::env::Env;
 use leveldb_env::env::whole_files::read_file;
 use leveldb_env::mem_env::MemEnv;

@@ -3,9 +3,9 @@ use super::stores::{
     DefaultOptions, STORE, buffered, files_of, has_files, map_of, put_all, put_log_of, reopen,
 };
 use leveldb_base::error::{Result, StatusCode};
+use leveldb_disks::mem_env::{MemEnv, Pick, RecordEnv};
 use leveldb_env::env::Env;
 use leveldb_env::infolog::Logger;
-use leveldb_env::mem_env::{MemEnv, Pick, RecordEnv};
 use leveldb_env::options::Options;
 use rusty_leveldb::repair;
 use std::alloc::Global;

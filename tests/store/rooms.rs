@@ -4,9 +4,9 @@ use super::stores::{
     put_all, reopen,
 };
 use leveldb_base::error::{Result, StatusCode};
+use leveldb_disks::mem_env::{MemEnv, Pick, RecordEnv};
 use leveldb_env::env::Env;
 use leveldb_env::infolog::{InfoSink, Logger};
-use leveldb_env::mem_env::{MemEnv, Pick, RecordEnv};
 use leveldb_env::options::Options;
 use slow_store::has_levels;
 use std::alloc::Global;

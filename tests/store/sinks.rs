@@ -2,9 +2,9 @@
 use super::acts::{Setting, options_of};
 use super::stores::{STORE, files_of};
 use leveldb_base::error::{Result, Status, StatusCode, err};
+use leveldb_disks::mem_env::{Pick, RecordEnv};
 use leveldb_env::env::Env;
 use leveldb_env::infolog::{InfoSink, Logger};
-use leveldb_env::mem_env::{Pick, RecordEnv};
 use rusty_leveldb::shell::{Command, Reply, Script, parse, put_replies, run};
 use std::alloc::Global;
 use std::cell::Cell;

@@ -2,9 +2,9 @@
 use super::stored::Stored;
 use leveldb_base::error::{Result, StatusCode};
 use leveldb_base::types::FileNum;
+use leveldb_disks::mem_env::{MemEnv, RecordEnv};
 use leveldb_env::env::Env;
 use leveldb_env::env::whole_files::read_file;
-use leveldb_env::mem_env::{MemEnv, RecordEnv};
 use leveldb_version::version_set::{read_current_file, set_current_file};
 use std::alloc::Global;
 use std::process::Abort;

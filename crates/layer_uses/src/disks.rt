@@ -1,10 +1,10 @@
 //! Disks in memory, what a crash leaves of them, options and filter blocks.
 use leveldb_base::error::Result;
+use leveldb_disks::mem_env::{MemEnv, Pick, RecordEnv};
 use leveldb_env::compressor::CompressorList;
 use leveldb_env::env::Env;
 use leveldb_env::filter::BloomPolicy;
 use leveldb_env::filter_block::{FilterBlockBuilder, FilterBlockReader};
-use leveldb_env::mem_env::{MemEnv, Pick, RecordEnv};
 use leveldb_env::options::{for_test, in_memory};
 use std::alloc::Global;
 

@@ -3,7 +3,7 @@
 #![tactic(auto)]
 
 use leveldb_base::error::Result;
-use leveldb_env::disk_env::{PosixDiskEnv, reserve_descriptors};
+use leveldb_disks::disk_env::{PosixDiskEnv, reserve_descriptors};
 use leveldb_env::infolog::{InfoSink, Logger};
 use rusty_leveldb::shell::ldb_main;
 use std::io::Write;

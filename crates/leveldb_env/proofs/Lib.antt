@@ -7,9 +7,6 @@ pub mod WholeFilesLemmas
 pub mod FilterLemmas
 pub mod BloomLemmas
 pub mod FilterBlockLemmas
-pub mod DiskEnvLemmas
 pub mod MemEnvLemmas
-pub mod JournalLemmas
-pub mod RecordLemmas
 pub mod PicksLemmas
 pub mod CompressorLemmas

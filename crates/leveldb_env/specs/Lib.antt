@@ -10,10 +10,6 @@ pub mod FilterBlock
 pub mod FilterBlockLaws
 pub mod MemEnv
 pub mod MemEnvLaws
-pub mod DiskEnv
-pub mod DiskEnvLaws
-pub mod Journal
-pub mod Record
 pub mod Picks
 pub mod Compressor
 pub mod Options

@@ -3,9 +3,8 @@
 #![tactic(auto)]
 
 pub mod compressor;
-pub mod disk_env;
 pub mod env;
-mod errors;
+pub mod errors;
 pub mod filter;
 pub mod filter_block;
 pub mod infolog;

@@ -9,16 +9,13 @@ ghost use Rattle.leveldb_env.specs.MemEnv.{ChangesOrFails, CopiesFrom, IsNoSuchF
 ghost use Rattle.leveldb_env.specs.MemEnvLaws.{mem_failures_below, mem_only_now, mem_counts_now};
 
 pub mod files;
-mod journal;
 pub mod picks;
-mod record;
 
 use crate::env::Env;
 use crate::errors::refuse;
 use files::FileMap;
 use leveldb_base::error::{Result, Status, StatusCode, err};
 pub use picks::Pick;
-pub use record::RecordEnv;
 use std::alloc::{AllocError, Global};
 use std::collections::{BTreeMap, BTreeSet};
 
@@ -49,9 +46,11 @@ impl Drop for MemEnv {
 /// An open file of a `MemEnv`.
 #[derive(Drop)]
 pub struct MemHandle {
-    name: String,
-    // where its next read begins
-    offset: usize,
+    /// The name under which it was opened.
+    pub name: String,
+
+    /// Where its next read begins.
+    pub offset: usize,
 }
 
 impl MemEnv {
@@ -126,8 +125,8 @@ impl MemEnv {
 }
 
 impl MemHandle {
-    // A handle that begins to read at the file's first byte.
-    fn new(alloc: Global, name: &str) -> std::result::Result<MemHandle, AllocError>
+    /// A handle that begins to read at the file's first byte.
+    pub fn new(alloc: Global, name: &str) -> std::result::Result<MemHandle, AllocError>
         ensures name { IfOk result (λ handle. string_bytes handle.name ≡ name.now) }
         ensures offset { IfOk result (λ handle. handle.offset ≡ 0) }
     {
@@ -138,8 +137,9 @@ impl MemHandle {
     }
 }
 
+/// The error for a name that no file has.
 #[cold]
-fn missing<T>(alloc: Global, name: &str) -> Result<T>
+pub fn missing<T>(alloc: Global, name: &str) -> Result<T>
     ensures code { IsErrAnd result (λ status. status.code ≡ StatusCode.NotFound) }
     ensures text { IsErrAnd result
         (λ status. IfSome status.err
@@ -149,7 +149,8 @@ fn missing<T>(alloc: Global, name: &str) -> Result<T>
     refuse(alloc, StatusCode::NotFound, "no such file", name)
 }
 
-fn put_lock(
+/// Locks a name.
+pub fn put_lock(
     locks: &mut BTreeSet<String>,
     alloc: Global,
     name: &str,
@@ -162,7 +163,8 @@ fn put_lock(
     Ok(())
 }
 
-fn take_lock(locks: &mut BTreeSet<String>, name: &str) -> bool
+/// Frees a name. Returns whether it was locked.
+pub fn take_lock(locks: &mut BTreeSet<String>, name: &str) -> bool
     ensures held { result ≡ contains_text locks.old name.now }
     ensures freed { contains_text locks.new ≡ lock_set name.now false (contains_text locks.old) }
     ensures unchanged { result ≡ false → contains_text locks.new ≡ contains_text locks.old }

@@ -3,7 +3,7 @@
 #![tactic(auto)]
 
 use leveldb_base::error::Result;
-use leveldb_env::disk_env::{PosixDiskEnv, reserve_descriptors};
+use leveldb_disks::disk_env::{PosixDiskEnv, reserve_descriptors};
 use leveldb_env::env::Sink;
 use leveldb_inspect::util_main;
 use std::io::Write;

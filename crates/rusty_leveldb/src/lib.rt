@@ -13,13 +13,12 @@ pub use leveldb_base::cmp::{Cmp, DefaultCmp};
 pub use leveldb_base::error::{Result, Status, StatusCode};
 pub use leveldb_base::types::LdbIterator;
 pub use leveldb_base::{blockhandle, cmp, crc, error, key_types, laws, names, types, varint};
+pub use leveldb_disks::{disk_env, mem_env};
 pub use leveldb_env::compressor::{Compressor, CompressorId, CompressorList};
 pub use leveldb_env::filter::{BloomPolicy, FilterPolicy};
 pub use leveldb_env::mem_env::MemEnv;
 pub use leveldb_env::options::Options;
-pub use leveldb_env::{
-    compressor, disk_env, env, filter, filter_block, infolog, laws as env_laws, mem_env, options,
-};
+pub use leveldb_env::{compressor, env, filter, filter_block, infolog, laws as env_laws, options};
 pub use leveldb_files::laws as files_laws;
 pub use leveldb_iter::moves::{Move, Step};
 pub use leveldb_iter::snapshot::Snapshot;

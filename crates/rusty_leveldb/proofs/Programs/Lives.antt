@@ -11,16 +11,16 @@ use Rattle.std.proofs.lemmas.List.Elements.{All-head, All-tail}
 use Rattle.std.specs.Option.{option_map}
 use Rattle.leveldb_base.specs.declared.error.Status.{Status}
 use Rattle.leveldb_base.specs.declared.error.StatusCode.TheVariants.{InvalidArgument}
-use Rattle.leveldb_env.specs.declared.mem_env.record.RecordEnv.{RecordEnv}
+use Rattle.leveldb_disks.specs.declared.mem_env.record.RecordEnv.{RecordEnv}
 use Rattle.leveldb_env.specs.declared.mem_env.picks.Pick.{Pick}
-use Rattle.leveldb_env.specs.contracts.mem_env.record.RecordEnvEnv.TheImpl.{ghosts}
+use Rattle.leveldb_disks.specs.contracts.mem_env.record.RecordEnvEnv.TheImpl.{ghosts}
 use Rattle.leveldb_base.specs.Error.{IsOutOfMemory}
 use Rattle.leveldb_env.specs.Env.{Files, kept_file}
-use Rattle.leveldb_env.specs.declared.mem_env.journal.Call.{Call}
-use Rattle.leveldb_env.specs.Journal.{FilesWere, files_after_calls}
+use Rattle.leveldb_disks.specs.declared.mem_env.journal.Call.{Call}
+use Rattle.leveldb_disks.specs.Journal.{FilesWere, files_after_calls}
 use Rattle.leveldb_env.specs.MemEnv.{files_of}
 use Rattle.leveldb_env.specs.Picks.{picked, tails_of}
-use Rattle.leveldb_env.specs.Record.{record_observed, moment_of, failures_of, files_in, files_then, SameObserved}
+use Rattle.leveldb_disks.specs.Record.{record_observed, moment_of, failures_of, files_in, files_then, SameObserved}
 use Rattle.rusty_leveldb.specs.declared.shell.crash_runs.Report.{Report}
 use Rattle.rusty_leveldb.specs.Machines.State.{State, Opening, closed}
 use Rattle.leveldb_files.specs.Histories.Holds.{IsHonest}

@@ -2,7 +2,7 @@
 ghost use Rattle.std.specs.Prelude.{◌≡◌, ◌≤◌, ◌+◌, ◌⊎◌, IfOk, IfErr};
 ghost use Rattle.leveldb_base.specs.Error.{IsOutOfMemory};
 ghost use Rattle.leveldb_env.specs.Picks.{tails_of};
-ghost use Rattle.leveldb_env.specs.Record.{moment_of, CanCrashTo};
+ghost use Rattle.leveldb_disks.specs.Record.{moment_of, CanCrashTo};
 ghost use Rattle.rusty_leveldb.specs.Engines.Engine.{opening_of};
 ghost use Rattle.leveldb_store.specs.Tables.BuildTable.{choices_of};
 ghost use Rattle.rusty_leveldb.specs.Programs.Lives.{IsAlwaysLife, IsCrash, ReportsLives};
@@ -13,10 +13,10 @@ use super::runs::answer;
 use crate::db_impl::Engine;
 use leveldb_base::cmp::{Cmp, InternalKeyCmp, UserCmp};
 use leveldb_base::error::{Result, StatusCode, err};
+use leveldb_disks::mem_env::{Pick, RecordEnv};
 use leveldb_env::compressor::{CompressorList, Compressors};
 use leveldb_env::env::Env;
 use leveldb_env::filter::{FilterPolicy, InternalFilterPolicy};
-use leveldb_env::mem_env::{Pick, RecordEnv};
 use leveldb_env::options::Options;
 use std::alloc::Global;
 

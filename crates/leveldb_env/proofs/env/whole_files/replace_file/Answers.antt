@@ -1,4 +1,3 @@
-use Rattle.std.proofs.Common.{◌≡◌, ◌∙◌}
 use Rattle.leveldb_env.proofs.AppendedLemmas.{renamed_bytes}
 use Rattle.leveldb_env.proofs.EnvLemmas.{ChangesFiles-refused, cause_after}
 use Rattle.leveldb_env.proofs.WholeFilesLemmas.{ChangesFiles-found, at_rename, found_cause, there_at_rename, written_aside}

@@ -1,7 +1,7 @@
 use Rattle.std.proofs.Common.{◌≤◌, ◌+◌, ◌-◌, ℕ, List, [], length, map, take, vec_len, vec_capacity}
 use Rattle.leveldb_base.specs.contracts.cmp.internal.InternalKeyCmpCmp.TheImpl.{ghosts as key_order}
-use Rattle.leveldb_env.specs.contracts.mem_env.record.RecordEnvEnv.TheImpl.{ghosts}
-use Rattle.leveldb_env.specs.Record.{moment_of}
+use Rattle.leveldb_disks.specs.contracts.mem_env.record.RecordEnvEnv.TheImpl.{ghosts}
+use Rattle.leveldb_disks.specs.Record.{moment_of}
 use Rattle.leveldb_env.specs.contracts.compressor.CompressorListCompressors.TheImpl.{ghosts as compressors}
 use Rattle.leveldb_env.specs.contracts.filter.internal.InternalFilterPolicyFilterPolicy.TheImpl.{ghosts as key_policy}
 use Rattle.leveldb_store.specs.Tables.BuildTable.{choices_of}

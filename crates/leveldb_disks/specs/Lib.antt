@@ -1,0 +1,5 @@
+pub mod Journal
+pub mod Record
+pub mod RecordLaws
+pub mod DiskEnv
+pub mod DiskEnvLaws

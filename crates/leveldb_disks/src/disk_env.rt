@@ -1,0 +1,245 @@
+//! An environment over the files of the operating system.
+// LevelDB: util/env_posix.cc
+ghost use Rattle.std.specs.Prelude.{◌≡◌, ◌<◌, ◌^◌, ℕ, List, [], false, Err, IfOk, Ok, None};
+ghost use Rattle.leveldb_env.specs.Env.{HasCause};
+ghost use Rattle.leveldb_disks.specs.DiskEnv.{nothing_observed, IsExcused};
+ghost use Rattle.leveldb_disks.specs.DiskEnvLaws.{disk_only_now, disk_counts_now};
+
+mod calls;
+mod folders;
+mod syncs;
+
+pub use calls::reserve_descriptors;
+use folders::folder_of;
+use leveldb_base::error::{Result, Status, StatusCode};
+use leveldb_env::env::Env;
+use std::alloc::Global;
+use std::collections::BTreeMap;
+use std::fs::File;
+use std::io::{self, Read};
+use std::os::unix::fs::FileExt;
+use std::rt::{Clock, Files};
+use syncs::FailedSyncs;
+
+/// The files of the operating system. A name is a path.
+///
+/// It reports its count of failures alone: what its disk holds is a premise, and no contract. A
+/// file or a folder is created, deleted or renamed, and then the folder of its name is synced;
+/// where that sync fails, the next call that takes a name makes it first. A folder is no file, and
+/// a pipe or a device is refused. A handle that was opened to be read takes no bytes, nor does one
+/// of a file of which a sync failed: `open_appendable_file` puts a synced copy in its place.
+#[derive(Drop)]
+pub struct PosixDiskEnv<R> {
+    rt: R,
+
+    // the locked names, and the open file that holds each lock
+    locks: BTreeMap<String, File>,
+    syncs: FailedSyncs,
+    failures: u64,
+    ghost counted: { failures < 2 ^ 64 },
+}
+
+impl<R: Files<File = File> + Clock + AllocGlobal + Clone + Drop> PosixDiskEnv<R> {
+    /// An environment over these files, which has locked no name and failed no call.
+    pub fn new(rt: R) -> PosixDiskEnv<R>
+        ensures no_failure { ⟦<PosixDiskEnv<R> as Env>⟧.failures result ≡ 0 }
+    {
+        let locks = BTreeMap::new(rt.alloc());
+        let syncs = FailedSyncs::new(rt.alloc());
+        PosixDiskEnv {
+            rt,
+            locks,
+            syncs,
+            failures: 0,
+        }
+    }
+}
+
+impl<R: AllocGlobal> PosixDiskEnv<R> {
+    // What a call of the system returned. An error is counted, but for out of memory and for this
+    // code; its text names what was called upon.
+    fn settle<T>(
+        &mut self,
+        answer: io::Result<T>,
+        uncounted: Option<StatusCode>,
+        name: &str,
+    ) -> Result<T>
+        ensures value { IfOk result (λ value. answer ≡ Ok value) }
+        ensures cause { HasCause (IsExcused uncounted) self.old.failures self.new.failures result }
+    {
+        match answer {
+            Ok(value) => Ok(value),
+            Err(error) => {
+                let code = calls::code_of(error);
+                if code != StatusCode::OutOfMemory && uncounted != Some(code) {
+                    self.failures = self.failures.saturating_add(1);
+                }
+                Err(calls::status_of(self.rt.alloc(), code, name, error))
+            }
+        }
+    }
+}
+
+impl<R> PosixDiskEnv<R> {
+    // Whether the folder of a name was synced since others may have changed it: taking a lock in it
+    // did that, and each change since is synced, or owed.
+    fn is_settled(&self, name: &str) -> bool {
+        for locked in self.locks.keys() {
+            if folder_of(locked.as_str()) == folder_of(name) {
+                return true;
+            }
+        }
+        false
+    }
+}
+
+// The error for a lock that is held, or for one that isn't. It takes no memory.
+#[cold]
+fn lock_error<T>() -> Result<T>
+    ensures { result ≡ Err (record { code = StatusCode.LockError; err = None }) }
+{
+    Err(Status {
+        code: StatusCode::LockError,
+        err: None,
+    })
+}
+
+impl<R: Files<File = File> + Clock + AllocGlobal + Clone + Drop> Env for PosixDiskEnv<R> {
+    type File = File;
+
+    ghost models_disk = { false };
+
+    ghost models_moments = { false };
+
+    ghost observed = { λ _. nothing_observed };
+
+    ghost failures = { λ env. env.failures };
+
+    ghost name_of = { λ _. [] };
+
+    ghost offset_of = { λ _. 0 };
+
+    ghost counts = { λ env. env.counted };
+
+    ghost only_now = { λ _. disk_only_now };
+
+    ghost counts_now = { λ _. disk_counts_now };
+
+    ghost moments_need_disk = { λ modelled. modelled };
+
+    fn open_sequential_file(&mut self, name: &str) -> Result<File> {
+        let answer = calls::open(&self.rt, &mut self.syncs, name);
+        self.settle(answer, Some(StatusCode::NotFound), name)
+    }
+
+    fn open_random_access_file(&mut self, name: &str) -> Result<File> {
+        self.open_sequential_file(name)
+    }
+
+    fn open_writable_file(&mut self, name: &str) -> Result<File> {
+        let is_settled = self.is_settled(name);
+        let answer = calls::create_empty(&self.rt, &mut self.syncs, name, is_settled);
+        self.settle(answer, None, name)
+    }
+
+    fn open_appendable_file(&mut self, name: &str) -> Result<File> {
+        let is_settled = self.is_settled(name);
+        let answer = calls::create(&self.rt, &mut self.syncs, name, is_settled);
+        self.settle(answer, None, name)
+    }
+
+    fn read(&mut self, file: &mut File, target: &mut [u8]) -> Result<usize> {
+        let answer = file.read(target);
+        self.settle(answer, Some(StatusCode::NotFound), "read")
+    }
+
+    fn read_at(&mut self, file: &File, offset: usize, target: &mut [u8]) -> Result<usize> {
+        // no file has bytes at offsets of 2^63 or more, and the system takes none that comes near
+        if offset > (i64::MAX as usize).saturating_sub(target.len()) {
+            return Ok(0);
+        }
+        let answer = file.read_at(target, offset as u64);
+        self.settle(answer, Some(StatusCode::NotFound), "read")
+    }
+
+    #[tactic(auto, using(crate::proofs::DiskEnvLemmas::cause_not_gone))]
+    fn append(&mut self, file: &mut File, bytes: &[u8]) -> Result<()> {
+        let answer = self.syncs.append(file, bytes);
+        self.settle(answer, None, "append")
+    }
+
+    #[tactic(auto, using(crate::proofs::DiskEnvLemmas::cause_not_gone))]
+    fn sync(&mut self, file: &mut File) -> Result<()> {
+        let answer = self.syncs.sync(file);
+        self.settle(answer, None, "sync")
+    }
+
+    fn exists(&mut self, name: &str) -> Result<bool> {
+        let answer = calls::exists(&self.rt, &mut self.syncs, name);
+        self.settle(answer, None, name)
+    }
+
+    fn children(&mut self, alloc: Global, folder: &str) -> Result<Vec<String>> {
+        let answer = calls::children(&self.rt, &mut self.syncs, alloc, folder);
+        self.settle(answer, Some(StatusCode::NotFound), folder)
+    }
+
+    fn size_of(&mut self, name: &str) -> Result<usize> {
+        let answer = calls::size_of(&self.rt, &mut self.syncs, name);
+        self.settle(answer, Some(StatusCode::NotFound), name)
+    }
+
+    fn delete(&mut self, name: &str) -> Result<()> {
+        let answer = calls::delete(&self.rt, &mut self.syncs, name);
+        self.settle(answer, Some(StatusCode::NotFound), name)
+    }
+
+    fn mkdir(&mut self, folder: &str) -> Result<()> {
+        let answer = folders::make_folders(&self.rt, &mut self.syncs, folder);
+        self.settle(answer, None, folder)
+    }
+
+    fn rmdir(&mut self, folder: &str) -> Result<()> {
+        let answer = calls::remove_folder(&self.rt, &mut self.syncs, folder);
+        self.settle(answer, None, folder)
+    }
+
+    fn rename(&mut self, from: &str, to: &str) -> Result<()> {
+        let answer = calls::rename(&self.rt, &mut self.syncs, from, to);
+        self.settle(answer, Some(StatusCode::NotFound), from)
+    }
+
+    fn lock(&mut self, name: &str) -> Result<()> {
+        if self.locks.contains_key(name) {
+            return lock_error();
+        }
+        let answer = calls::lock(&self.rt, &mut self.syncs, name);
+        let Some(file) = self.settle(answer, Some(StatusCode::LockError), name)? else {
+            return lock_error();
+        };
+        let name = String::from_str(self.rt.alloc(), name)?;
+        self.locks.insert(name, file)?;
+        Ok(())
+    }
+
+    fn unlock(&mut self, name: &str) -> Result<()> {
+        let Some(file) = self.locks.get(name) else {
+            return lock_error();
+        };
+        if file.unlock().is_err() {
+            self.failures = self.failures.saturating_add(1);
+            return Err(Status {
+                code: StatusCode::IOError,
+                err: None,
+            });
+        }
+        self.locks.remove(name);
+        Ok(())
+    }
+
+    fn micros(&mut self) -> Result<u64> {
+        let answer = self.rt.since_1970();
+        let time = self.settle(answer, None, "time")?;
+        Ok(u64::try_from(time.as_micros()).unwrap_or(u64::MAX))
+    }
+}

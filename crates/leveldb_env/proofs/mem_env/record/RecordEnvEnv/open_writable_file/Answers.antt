@@ -1,6 +1,0 @@
-use Rattle.std.proofs.Common.{true}
-use Rattle.leveldb_env.specs.Env.{emptied}
-use Rattle.leveldb_env.proofs.mem_env.record.RecordEnvEnv.open_writable_file.Goals as goal
-
-pub returns-in_default-clause-asks : goal.returns-in_default-clause-asks
-returns-in_default-clause-asks c = c.find_no_memory.ensures.asks (emptied c.args.name.now) true

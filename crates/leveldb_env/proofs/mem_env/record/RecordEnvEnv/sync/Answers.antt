@@ -1,4 +1,0 @@
-use Rattle.leveldb_env.proofs.mem_env.record.RecordEnvEnv.sync.Goals as goal
-
-pub returns-clause-asks : goal.returns-clause-asks
-returns-clause-asks c = rw c.as_str.ensures.value at c.ask.ensures.asks
