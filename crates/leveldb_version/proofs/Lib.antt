@@ -6,3 +6,4 @@ pub mod Walks
 pub mod Compactions
 pub mod Engines
 pub mod Repairs
+pub mod ExitLemmas

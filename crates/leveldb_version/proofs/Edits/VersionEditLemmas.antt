@@ -161,6 +161,15 @@ put_more make view items i item before after next h is e f =
     ∙ ap (λ z. before ++ z) (sym (spread_more make view (take i items) item))
     ∙ ap (λ z. before ++ flat_map field_bytes (map make (map view z))) (ap (λ z. take i items ++ z ∷ []) is ∙ sym (take_more items i item h))
 
+-- the same at the end of what a loop was given
+pub put_last : {A B : Type 0} (make : B → Field) (view : A → B) (items : List A) (item : A) (before after next : List ℕ)
+    → after ≡ before ++ flat_map field_bytes (map make (map view items)) → next ≡ after ++ field_bytes (make (view item))
+    → next ≡ before ++ flat_map field_bytes (map make (map view (items ++ item ∷ [])))
+put_last make view items item before after next e f =
+    f ∙ ap (λ z. z ++ field_bytes (make (view item))) e
+    ∙ append_assoc before (flat_map field_bytes (map make (map view items))) (field_bytes (make (view item)))
+    ∙ ap (λ z. before ++ z) (sym (spread_more make view items item))
+
 -- a value that fits makes a field that fits
 pub one_fits : {A : Type 0} (make : A → Field) (Fits : A → Type 0) → ((x : A) → Fits x → FieldFits (make x)) → (o : Option A) → IfSome o Fits → All FieldFits (map make (option_to_list o))
 one_fits make Fits h None f = All-nil FieldFits

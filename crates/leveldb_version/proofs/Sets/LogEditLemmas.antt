@@ -1,20 +1,23 @@
 -- What the files and the set are at each step of logging an edit.
-use Rattle.std.specs.Prelude.{◌≢◌, IsTrue, OnErr, OnOk, IfErr}
+use Rattle.std.specs.Prelude.{◌≢◌, IsErr, IsErrAnd, IsTrue, OnErr, OnOk, IfErr}
 use Rattle.std.proofs.Common.{◌≡◌, ◌⊎◌, ◌++◌, ◌∷◌, ◌≤◌, inl, inr, ⊎_elim, ℕ, Bool, true, false, List, [], Option, None, Some, Result, Ok, Err, sym, subst, ◌∙◌, ap, refl, length, length-append, flat_map, map, arith}
 use Rattle.std.proofs.lemmas.List.Concat.{flat_map-cons}
+use Rattle.std.proofs.lemmas.Result.{IfErr-weaker, IfOk-from_err}
 use Rattle.std.specs.List.{All}
 use Rattle.std.specs.Option.{option_map, option_or, option_to_list, unwrap_or}
 use Rattle.leveldb_base.specs.declared.error.Status.{Status}
 use Rattle.leveldb_env.specs.declared.env.Env.{Ghosts}
-use Rattle.leveldb_env.specs.Env.{BeforeOrAfter, ChangesFiles, File, Files, HasCause, Observed, PrefixAppended, Run, extended, longer_file, synced}
-use Rattle.leveldb_env.proofs.EnvLemmas.{Run-call, Run-mono, appended, at_same, begun, call, cause_same, nothing_appended}
-use Rattle.leveldb_env.specs.WholeFiles.{IsLost}
+use Rattle.leveldb_env.specs.Env.{AppendedAreBytes, BeforeOrAfter, ChangesFiles, File, Files, HasCause, Observed, PrefixAppended, Run, extended, longer_file, synced}
+use Rattle.leveldb_env.proofs.EnvLemmas.{ChangesFiles-refused, cause_refused, Run-call, Run-mono, appended, at_same, begun, call, cause_same, nothing_appended}
+use Rattle.leveldb_env.specs.WholeFiles.{IsLost, IsLostUnobserved}
 use Rattle.leveldb_mem.specs.Log.LogFile.{AppendsRecord, IsFileLost, LogFileState, SyncsRecords, broken_log, with_record}
 use Rattle.leveldb_mem.specs.Log.Writer.{frame}
 use Rattle.leveldb_base.specs.Error.{IsOutOfMemory}
 use Rattle.leveldb_version.specs.Edits.FullEdit.{files_after, full_after}
-use Rattle.leveldb_version.specs.Sets.LogEdit.{AppendingAndSyncing, AppendsEdit, BeginsManifest, LogEditResult, new_manifest, set_begun, with_bytes_kept}
-use Rattle.leveldb_version.specs.Sets.NewManifest.{MakingManifest, with_manifest}
+use Rattle.leveldb_version.proofs.ExitLemmas.{excused, nothing_done}
+use Rattle.leveldb_version.specs.Sets.CurrentFile.{temp_path}
+use Rattle.leveldb_version.specs.Sets.LogEdit.{AppendingAndSyncing, AppendsEdit, BeginsManifest, LogEditResult, new_manifest, new_records, set_begun, with_bytes_kept}
+use Rattle.leveldb_version.specs.Sets.NewManifest.{MakingManifest, manifest_bytes, with_manifest}
 use Rattle.leveldb_files.specs.Edits.Edit.{Edit, Field, LevelsFit, adds, comparator_is, deletes, edit_bytes, field_bytes, last_sequence_is, log_is, next_file_is, points, previous_log_is}
 use Rattle.leveldb_version.specs.Sets.VersionSetValue.{ManifestState, OpenManifest, VersionSetValue, broken, in_use, manifest_state, unmade}
 use Rattle.leveldb_files.proofs.Edits.EditLemmas.{length-field-pos}
@@ -200,6 +203,58 @@ made_changes {T} {x} {models_disk} {v0} {v1} {store} {to} {n} {m} {bytes} {all} 
 
 pub ok_cause : {T : Type 0} {Excused Other : Status → Type 0} {before now : ℕ} {x : T} {result : Result T Status} → result ≡ Ok x → HasCause Excused before now result → HasCause {T = Unit {0}} Other before now (Ok tt)
 ok_cause {before = before} {now = now} is cause = record { later = cause.later; ok = subst (λ r. OnOk r (now ≡ before)) is cause.ok; uncounted = tt; cause = tt }
+
+-- ---- memory was out before the first call
+
+-- what has no manifest has none in use
+pub none_used : (is_broken : Bool) (manifest : OpenManifest) → manifest_state is_broken None ≡ in_use manifest → ⊥
+none_used true manifest is = absurd (cc is)
+none_used false manifest is = absurd (cc is)
+
+module _ {models_disk : Bool} {set new : VersionSetValue} {edit : Edit} {observed : Observed} {failed : ℕ} (result : Result (Unit {0}) Status) (refused : IsErr result)
+    (memory : IfErr result IsOutOfMemory) (same : new ≡ set) where
+  pub not_appended : {manifest : OpenManifest} → AppendsEdit models_disk manifest set edit observed failed result new observed failed
+  not_appended = record {
+    does = λ modelled. nothing_done refused (inl (nothing_appended _ _ observed.disk.files));
+    ok = IfOk-from_err result _ refused;
+    err = IfErr-weaker result IsOutOfMemory _ (λ status why. inl (why, same, λ modelled. refl)) memory;
+    cause = excused result refused (IfErr-weaker result IsOutOfMemory _ (λ status why. inl why) memory);
+  }
+
+  pub not_begun : BeginsManifest models_disk set edit observed failed result new observed failed
+  not_begun = record {
+    does = λ modelled. nothing_done refused (record { others = λ other a b c. refl; current = inl refl });
+    bytes = λ modelled kept. kept;
+    ok = IfOk-from_err result _ refused;
+    err = IfErr-weaker result IsOutOfMemory _ (λ status why. inl (why, same, λ modelled. refl)) memory;
+    cause = excused result refused (IfErr-weaker result IsOutOfMemory _ (λ status why. inl why) memory);
+  }
+
+-- ---- a manifest that was not made
+
+module _ {T : Type 0} {models_disk : Bool} {set new : VersionSetValue} {edit : Edit} {before after : Observed} {failed now_failed : ℕ} (made : Result T Status) (status : Status)
+    (was : made ≡ Err status) where
+  -- it breaks the set
+  pub not_made : (store : List ℕ) (n : ℕ) (bytes : List ℕ) → store ≡ set.store → n ≡ set.manifest_number → bytes ≡ manifest_bytes (new_records set edit)
+      → (result : Result (Unit {0}) Status) → IsErrAnd result (λ it. it ≡ status)
+      → (IsTrue models_disk → ChangesFiles models_disk (with_manifest store n bytes) (MakingManifest store n bytes) before after made)
+      → (IsTrue models_disk → AppendedAreBytes before.disk.files → AppendedAreBytes after.disk.files)
+      → HasCause (IsLostUnobserved models_disk (temp_path store n) failed now_failed) failed now_failed made
+      → new ≡ record set { manifest = broken } → BeginsManifest models_disk set edit before failed result new after now_failed
+  not_made store n bytes a b d (Ok done) same does appended cause breaks = absurd same
+  not_made store n bytes a b d (Err it) same does appended cause breaks = record {
+    does = λ modelled. ChangesFiles-refused refl
+        (subst (λ all. Run (MakingManifest set.store set.manifest_number all before.disk.files) before after) d
+        (subst (λ k. Run (MakingManifest set.store k bytes before.disk.files) before after) b
+        (subst (λ path. Run (MakingManifest path n bytes before.disk.files) before after) a (Run-call modelled (does modelled)))));
+    bytes = appended;
+    ok = tt;
+    err = inr breaks;
+    cause = cause_refused {T = T} (subst (λ e. HasCause {T = T} (IsLostUnobserved models_disk (temp_path set.store set.manifest_number) failed now_failed) failed now_failed (Err e)) (sym same)
+        (subst (λ answer. HasCause (IsLostUnobserved models_disk (temp_path set.store set.manifest_number) failed now_failed) failed now_failed answer) was
+        (subst (λ k. HasCause (IsLostUnobserved models_disk (temp_path set.store k) failed now_failed) failed now_failed made) b
+        (subst (λ path. HasCause (IsLostUnobserved models_disk (temp_path path n) failed now_failed) failed now_failed made) a cause))));
+  }
 
 -- ---- levels
 

@@ -1,18 +1,25 @@
 -- What the files are at each step of making a manifest, and what its bytes are.
-use Rattle.std.specs.Prelude.{IsTrue}
+use Rattle.std.specs.Prelude.{Err, IfErr, IsErr, IsTrue}
 use Rattle.std.proofs.Common.{◌≡◌, ◌++◌, ◌∷◌, ◌^◌, ◌<◌, inl, inr, ⊎_elim, ℕ, Bool, false, List, [], Some, Result, Ok, sym, subst, ◌∙◌, ap, append_assoc, refl}
 use Rattle.std.proofs.lemmas.List.{append-nil}
+use Rattle.std.proofs.lemmas.Result.{IfErr-weaker}
+use Rattle.std.specs.Result.{IsErrAnd}
 use Rattle.std.specs.Str.{bytes_eq}
+use Rattle.leveldb_base.specs.Error.{IsOutOfMemory}
 use Rattle.leveldb_base.specs.declared.error.Status.{Status}
 use Rattle.leveldb_base.specs.declared.types.FileType.TheVariants.{Current, Descriptor, Temp}
 use Rattle.leveldb_base.proofs.NamesLemmas.{made_paths_apart}
-use Rattle.leveldb_env.specs.Env.{ChangesFiles, Files, Observed, Run, SameBut, kept_file, with_file}
+use Rattle.leveldb_env.specs.Env.{AppendedAreBytes, ChangesFiles, Files, HasCause, Observed, Run, SameBut, SameLocks, kept_file, with_file}
+use Rattle.leveldb_env.specs.WholeFiles.{IsLost, IsLostUnobserved}
 use Rattle.leveldb_env.specs.Sink.{AppendsBytes}
-use Rattle.leveldb_env.proofs.EnvLemmas.{Run-call, Run-mono, at_other, at_same, bytes_eq-apart, call}
+use Rattle.leveldb_env.proofs.EnvLemmas.{ChangesFiles-refused, cause_refused, Run-call, Run-mono, at_other, at_same, bytes_eq-apart, call}
 use Rattle.leveldb_mem.specs.Log.{framed, framed_record, log_block_size, offset_after}
 use Rattle.leveldb_mem.specs.Log.Writer.{AddsRecord, WriterState, frame}
-use Rattle.leveldb_version.specs.Sets.CurrentFile.{SettingCurrent, temp_path, with_current}
-use Rattle.leveldb_version.specs.Sets.NewManifest.{MakingManifest, with_manifest}
+use Rattle.leveldb_version.specs.Sets.CurrentFile.{IsCurrentUnread, SettingCurrent, temp_path, with_current}
+use Rattle.leveldb_version.specs.Sets.NewManifest.{MakingManifest, manifest_bytes, with_manifest}
+use Rattle.leveldb_version.specs.Sets.NewStore.{MakesManifest}
+use Rattle.leveldb_version.proofs.ExitLemmas.{excused, nothing_done}
+use Rattle.leveldb_files.specs.Edits.Edit.{Edit, edit_bytes}
 use Rattle.leveldb_files.specs.Stores.Paths.{current_path, manifest_path}
 
 -- ---- framing
@@ -78,3 +85,62 @@ module _ (store : List ℕ) (n : ℕ) (fits : n < 2 ^ 64) (bytes : List ℕ) whe
   manifest_made modelled making setting =
       let run = at_current modelled making setting in
       record { ok = λ t. setting.ok modelled ∙ ap (with_current store n) (making.ok modelled); now = λ t. run.has; time = run.time }
+
+-- ---- a manifest of one edit
+
+module _ {store : List ℕ} {n : ℕ} {edit : Edit} {models_disk : Bool} where
+  -- out of memory before the first call
+  pub not_begun : {observed : Observed} {failed : ℕ} (result : Result (Unit {0}) Status) → IsErr result → IfErr result IsOutOfMemory
+      → MakesManifest models_disk store n edit observed failed result observed failed
+  not_begun result refused memory = record {
+    does = λ modelled. nothing_done refused (record { others = λ other a b c. refl; current = inl refl });
+    bytes = λ modelled old. old;
+    locks = λ modelled. refl;
+    cause = excused result refused (IfErr-weaker result IsOutOfMemory _ (λ status why. inl why) memory);
+  }
+
+  module _ {T : Type 0} {bytes : List ℕ} {before after : Observed} {failed now_failed : ℕ} (is : bytes ≡ manifest_bytes (edit_bytes edit ∷ [])) where
+    -- a call that failed
+    pub not_made : (status : Status) (result : Result (Unit {0}) Status) → IsErrAnd result (λ it. it ≡ status)
+        → (IsTrue models_disk → ChangesFiles {T = T} models_disk (with_manifest store n bytes) (MakingManifest store n bytes) before after (Err status))
+        → (IsTrue models_disk → AppendedAreBytes before.disk.files → AppendedAreBytes after.disk.files) → SameLocks models_disk before after
+        → HasCause {T = T} (IsLostUnobserved models_disk (temp_path store n) failed now_failed) failed now_failed (Err status)
+        → MakesManifest models_disk store n edit before failed result after now_failed
+    not_made status (Ok done) same does appended locks cause = absurd same
+    not_made status (Err it) same does appended locks cause = record {
+      does = λ modelled. ChangesFiles-refused refl (subst (λ all. Run (MakingManifest store n all before.disk.files) before after) is (Run-call modelled (does modelled)));
+      bytes = appended;
+      locks = locks;
+      cause = cause_refused {T = T} (subst (λ e. HasCause {T = T} (IsLostUnobserved models_disk (temp_path store n) failed now_failed) failed now_failed (Err e)) (sym same) cause);
+    }
+
+    -- one that made it
+    pub one_made : (x : T) → (IsTrue models_disk → ChangesFiles models_disk (with_manifest store n bytes) (MakingManifest store n bytes) before after (Ok x))
+        → (IsTrue models_disk → AppendedAreBytes before.disk.files → AppendedAreBytes after.disk.files) → SameLocks models_disk before after
+        → HasCause (IsLostUnobserved models_disk (temp_path store n) failed now_failed) failed now_failed (Ok x)
+        → MakesManifest models_disk store n edit before failed (Ok tt) after now_failed
+    one_made x does appended locks cause =
+        let made = λ (modelled : IsTrue models_disk). subst (λ all. ChangesFiles {T = T} models_disk (with_manifest store n all) (MakingManifest store n all) before after (Ok x)) is (does modelled) in
+        record {
+          does = λ modelled. record { ok = (made modelled).ok; now = (made modelled).now; time = (made modelled).time };
+          bytes = appended;
+          locks = locks;
+          cause = record { later = cause.later; ok = cause.ok; uncounted = tt; cause = tt };
+        }
+
+-- ---- `CURRENT`
+
+-- a file that isn't read at the path of `CURRENT`
+pub current_unread : {T U : Type 0} {models_disk : Bool} {path : List ℕ} {before now : ℕ} (store : List ℕ) (observed : Observed) (status : Status) (result : Result U Status)
+    → IsErrAnd result (λ it. it ≡ status) → path ≡ current_path store → HasCause {T = T} (IsLost models_disk path observed before now) before now (Err status)
+    → HasCause (IsCurrentUnread models_disk store observed before now) before now result
+current_unread store observed status (Ok value) same is cause = absurd same
+current_unread {T = T} {models_disk = models_disk} {before = before} {now = now} store observed status (Err it) same is cause =
+    let lost = subst (λ p. HasCause {T = T} (IsLost models_disk p observed before now) before now (Err it)) is
+    (subst (λ e. HasCause {T = T} (IsLost models_disk _ observed before now) before now (Err e)) (sym same) cause) in
+    record {
+      later = lost.later;
+      ok = tt;
+      uncounted = λ why. ⊎_elim (λ unread. lost.uncounted unread) (λ none. none.2) why;
+      cause = ⊎_elim (λ why. inl (inl why)) (λ counted. inr counted) lost.cause;
+    }

@@ -1,30 +1,35 @@
 -- What a cache of open tables has after each call, and that each table is its file's.
-use Rattle.std.specs.Prelude.{IfSome, IsErrAnd, IsSome, IsSomeAnd, IsTrue, OnOk, if◌then◌else◌, ◌==◌}
+use Rattle.std.specs.Prelude.{IfOk, IfSome, IsErr, IsErrAnd, IsSome, IsSomeAnd, IsTrue, OnOk, if◌then◌else◌, ◌==◌}
 use Rattle.std.proofs.Common.{◌≡◌, ◌≢◌, ◌⊎◌, inl, inr, ⊎_elim, ℕ, zero, suc, ◌+◌, ◌<◌, ◌≤◌, ◌^◌, true, false, List, [], ◌∷◌, length, Option, None, Some, Result, Ok, Err, refl, sym, ◌∙◌, ap, subst, arith, length-append}
+use Rattle.std.proofs.lemmas.Bool.{true≢false}
 use Rattle.std.proofs.lemmas.Bool.Decides.{eqb_tells}
+use Rattle.std.proofs.lemmas.Result.{IfOk-at_ok, IfOk-from_err}
 use Rattle.leveldb_base.specs.BlockHandle.{Handle}
 use Rattle.leveldb_base.specs.declared.cmp.Cmp.{Ghosts as CmpGhosts}
 use Rattle.leveldb_base.specs.declared.cmp.internal.InternalKeyCmp.{InternalKeyCmp}
 use Rattle.leveldb_base.specs.declared.error.Status.{Status}
 use Rattle.leveldb_base.specs.declared.error.StatusCode.TheVariants.{Corruption, NotSupported}
-use Rattle.leveldb_env.specs.Env.{File, Files, bytes_of}
+use Rattle.leveldb_base.specs.Error.{IsOutOfMemory}
+use Rattle.leveldb_env.specs.Env.{File, Files, HasCause, IsMissing, bytes_of}
+use Rattle.leveldb_env.specs.WholeFiles.{IsFoundOr, IsMissingFile}
 use Rattle.leveldb_env.proofs.EnvLemmas.{bytes_eq-same}
+use Rattle.leveldb_env.proofs.WholeFilesLemmas.{found_cause, found_ok}
 use Rattle.leveldb_env.specs.declared.env.Env.{Ghosts as EnvGhosts}
 use Rattle.leveldb_table.proofs.BlockCacheLemmas.{looked_for_same, one_id, put_finds}
 use Rattle.leveldb_table.proofs.FooterLemmas.{length-footer_bytes}
-use Rattle.leveldb_table.proofs.TableBlockLemmas.{reads_refused, reads_then, same_files}
+use Rattle.leveldb_table.proofs.TableBlockLemmas.{KeepsDisk-trans, fails_refused, reads_ok, reads_own, reads_refused, reads_then, same_files}
 use Rattle.leveldb_table.proofs.TableReaderLemmas.{opens_not}
 use Rattle.leveldb_table.specs.BlockCache.{HoldsOnlyOf, IsNumbered}
 use Rattle.leveldb_table.specs.Cache.{Cached, looked_for, put_first, value_of}
 use Rattle.leveldb_table.specs.Footer.{footer_bytes}
 use Rattle.leveldb_table.specs.OpenTable.{id_of}
 use Rattle.leveldb_table.specs.Table.{filter_key}
-use Rattle.leveldb_table.specs.TableBlock.{FileHas, IsLackError, KeepsDisk, ReadsFile}
+use Rattle.leveldb_table.specs.TableBlock.{FailsFor, FileHas, IsLackError, KeepsDisk, ReadsFile}
 use Rattle.leveldb_table.specs.TableReader.{AreOfPolicy, EndsInFooter, IsNoTable, IsOpenedAs, LacksPart, OpensTable, no_footer, not_indexed}
 use Rattle.leveldb_table.specs.declared.block_cache.CachedBlock.{CachedBlock}
 use Rattle.leveldb_files.specs.Stores.Format.{Format}
 use Rattle.leveldb_files.specs.Stores.Paths.{table_path}
-use Rattle.leveldb_version.specs.Tables.TableCache.{AreSameOrGone, ClosesTables, ForBytesAt, HasBytesAt, IsNoStoreTable, IsOpenedWith, IsSameOrClosed, IsSameOrGone, IsTableUnopened, IsThereAt, IsUnopened, MatchesFile, MatchesFiles, NoneOpened, OpensNumbered, StoreTable, TableOptions, blocks_of, empty_cache, files_at, key_order, missing, no_table, path_at, renewed, store_of, table_at, table_key, tables_of}
+use Rattle.leveldb_version.specs.Tables.TableCache.{AreSameOrGone, ClosesTables, ForBytesAt, HasBytesAt, IsNoStoreTable, IsOpenedWith, IsSameOrClosed, IsSameOrGone, IsTableUnopened, IsThereAt, IsUnopened, MatchesFile, MatchesFiles, NoneOpened, OpensNumbered, OpensTableFile, StoreTable, TableOptions, blocks_of, empty_cache, files_at, key_order, missing, no_table, path_at, renewed, store_of, table_at, table_key, tables_of}
 use Rattle.leveldb_version.specs.declared.table_cache.TableCache.{TableCache}
 
 -- ---- empty files
@@ -77,6 +82,85 @@ module _ {E F : Type 0} (env : EnvGhosts E F) where
             (let there : bytes_of file ≡ bytes = subst (λ (o : Option File). IsSomeAnd o (λ f. bytes_of f ≡ bytes)) is has.there in
             let none : bytes_of file ≡ [] = subst (λ (o : Option File). IfSome o (λ f. bytes_of f ≡ [])) is empty in
             sym there ∙ none) why.0)
+
+-- ---- a table's file
+
+is_refused : {T : Type 0} (Q : Status → Type 0) (result : Result T Status) → IsErrAnd result Q → IsErr result
+is_refused Q (Ok value) refused = absurd refused
+is_refused Q (Err status) refused = refl
+
+module _ {E F : Type 0} (env : EnvGhosts E F) (path : List ℕ) where
+  -- the file is empty, as far as the disk is observed
+  abbrev IsEmptyAt : E → Type 0
+  IsEmptyAt state = IsTrue env.models_disk → IfSome (files_at env state path) (λ file. bytes_of file ≡ [])
+
+  module _ (old : E) {new : E} (kept : KeepsDisk env old new) where
+    lost_fails : {T : Type 0} (status : Status) → HasCause {T = T} (λ e. IsOutOfMemory e ⊎ (IsMissingFile path e × IsEmptyAt old × (env.failures new ≡ env.failures old))) (env.failures old) (env.failures new) (Err status)
+        → FailsFor env {T = T} (λ e. (e.code ≡ Corruption) × IsEmptyAt old) old new (Err status)
+    lost_fails status cause = record {
+      later = cause.later;
+      ok = tt;
+      uncounted = λ excused. ⊎_elim (λ memory. cause.uncounted (inl memory)) (λ lost. lost.0) excused;
+      cause = ⊎_elim (λ excused. inl (⊎_elim (λ memory. inl memory) (λ lost. inr (lost.2, (lost.0.code, lost.1))) excused)) (λ counted. inr counted) cause.cause;
+    }
+
+    -- it isn't there
+    pub open_lost : {T : Type 0} (answer : Result T Status) (status : Status) (result : Result (F × ℕ) Status) → IsErrAnd result (λ it. it ≡ status)
+        → IsFoundOr path answer (Err status) → HasCause (IsMissing env.models_disk path (env.observed old)) (env.failures old) (env.failures new) answer
+        → OpensTableFile env path old result new
+    open_lost answer status (Ok opened) same is cause = absurd same
+    open_lost {T = T} answer status (Err it) same is cause = record {
+      ok = tt;
+      reads = record {
+        kept_disk = kept;
+        cause = fails_refused env {T = T} (Err it) same (lost_fails status
+            (found_cause path answer (Err status) (λ gone modelled. subst (λ (o : Option File). IfSome o (λ file. bytes_of file ≡ [])) (sym (gone modelled)) tt) is cause));
+      };
+    }
+
+    -- it is empty
+    pub open_empty : (answer : Result ℕ Status) (size : ℕ) (result : Result (F × ℕ) Status) → IsFoundOr path answer (Ok size) → size ≡ 0
+        → IsErrAnd result (λ status. status.code ≡ Corruption)
+        → IfOk answer (λ n. IsTrue env.models_disk → IfSome (files_at env old path) (λ file. n ≡ length (bytes_of file)))
+        → HasCause (IsMissing env.models_disk path (env.observed old)) (env.failures old) (env.failures new) answer
+        → OpensTableFile env path old result new
+    open_empty answer size result is none refused sized cause =
+        let was = found_ok path answer size is in
+        record {
+          ok = IfOk-from_err result _ (is_refused (λ status. status.code ≡ Corruption) result refused);
+          reads = reads_own env result kept (IfOk-at_ok (λ n. env.failures new ≡ env.failures old) was cause.ok) refused
+              (λ status code. inr (code, λ modelled. by (files_at env old path) (IfOk-at_ok (λ n. IsTrue env.models_disk → IfSome (files_at env old path) (λ file. n ≡ length (bytes_of file))) was sized modelled)));
+        }
+      where
+        nothing : (bytes : List ℕ) → size ≡ length bytes → bytes ≡ []
+        nothing [] long = refl
+        nothing (byte ∷ bytes) long = absurd (omega (arith, none, long))
+
+        by : (o : Option File) → IfSome o (λ file. size ≡ length (bytes_of file)) → IfSome o (λ file. bytes_of file ≡ [])
+        by None long = tt
+        by (Some file) long = nothing (bytes_of file) long
+
+  module _ {old mid new : E} (kept : KeepsDisk env old mid) (counted : env.failures mid ≡ env.failures old) where
+    -- it was there before, and isn't opened now
+    pub open_lost_then : (result : Result (F × ℕ) Status) → OpensTableFile env path mid result new → IsErr result → OpensTableFile env path old result new
+    open_lost_then result opens refused = record {
+      ok = IfOk-from_err result _ refused;
+      reads = reads_then env result kept counted
+          (λ status why. (why.0, λ modelled. subst (λ (files : Files). IfSome (files path) (λ file. bytes_of file ≡ [])) (same_files env kept modelled) (why.1 modelled))) opens.reads;
+    }
+
+    -- it is opened
+    pub opens_there : (size : ℕ) (file : F) → KeepsDisk env mid new → env.failures new ≡ env.failures mid → (IsTrue env.models_disk → env.name_of file ≡ path)
+        → (IsTrue env.models_disk → IfSome (files_at env old path) (λ found. size ≡ length (bytes_of found))) → (IsTrue env.models_disk → IsSome (files_at env old path))
+        → OpensTableFile env path old (Ok (file, size)) new
+    opens_there size file kept_on counted_on named sized there = record {
+      ok = λ modelled. (named modelled, by (files_at env old path) (sized modelled) (there modelled));
+      reads = reads_ok env (KeepsDisk-trans env kept kept_on) (counted_on ∙ counted);
+    }
+      where
+        by : (o : Option File) → IfSome o (λ found. size ≡ length (bytes_of found)) → IsSome o → IsSomeAnd o (λ found. size ≡ length (bytes_of found))
+        by None long is = absurd (true≢false (sym is))
+        by (Some found) long is = long
 
 -- ---- a cache that is renewed
 

@@ -22,6 +22,11 @@ fold_mapped : {A B C : Type 0} (f : B → C → B) (g : A → C) (b : B) (xs : L
 fold_mapped f g b [] = refl
 fold_mapped f g b (x ∷ xs) = fold_mapped f g (f b (g x)) xs
 
+-- one element more at the end
+pub mapped_push : {A B C : Type 0} (f : B → C → B) (g : A → C) (b : B) (xs : List A) (x : A) → fold f b (map g (xs ++ x ∷ [])) ≡ f (fold f b (map g xs)) (g x)
+mapped_push f g b [] x = refl
+mapped_push f g b (y ∷ xs) x = mapped_push f g (f b (g y)) xs x
+
 pub more_mapped : {A B C : Type 0} (f : B → C → B) (g : A → C) (b : B) (xs : List A) (i : ℕ) (x : A)
     → i < length xs → x ≡ get_or xs i x
     → fold f b (map g (take (i + 1) xs)) ≡ f (fold f b (map g (take i xs))) (g x)

@@ -4,7 +4,7 @@ use Rattle.std.proofs.lemmas.Bool.{eq-eqb, eqb-true, leb-true, leb-false, ltb-tr
 use Rattle.leveldb_base.proofs.OrderLemmas.{is_false}
 use Rattle.std.proofs.lemmas.Cmp.{back_total, nat_cmp_total, on_total, ranked, then_total, tied_itself}
 use Rattle.std.proofs.lemmas.Bool.Decides.{nat_tests}
-use Rattle.std.proofs.lemmas.List.{append-nil, drop_all, get_or-drop, get_or-map, get_or-take, length-drop, length-map, length-take, take_all}
+use Rattle.std.proofs.lemmas.List.{append-nil, drop_all, get_or-drop, get_or-map, get_or-take, length-drop, length-map, length-take, map_more, take_all}
 use Rattle.std.proofs.lemmas.Fn.{always_returns_same}
 use Rattle.std.proofs.lemmas.List.Elements.{All-map, All-weaker, filter_passes}
 use Rattle.std.proofs.lemmas.List.Kept.{IsSortedBy-filter}
@@ -368,3 +368,12 @@ sorted_by_closure {R = R} total {g = g} {f = f} xs sorted answers =
     (sorted (λ x y. is_lt (R (new_file_of x) (new_file_of y))) (ranks_by total new_file_of)
     (always_returns_same g (λ a r. is_lt r ≡ is_lt (R (new_file_of a.0.now) (new_file_of a.1.0.now))) f
     (λ a r f' k. let one = answers a r f' k in (ap is_lt one.0, one.1))))
+
+-- ---- a list that is made of another, one after another
+
+module _ {A B : Type 0} (f : A → B) where
+  pub made_more : (xs : List A) (i : ℕ) (x : A) (y : B) (ys after : List B) → i < length xs → x ≡ get_or xs i x
+      → ys ≡ map f (take i xs) → y ≡ f x → after ≡ ys ++ y ∷ [] → after ≡ map f (take (i + 1) xs)
+  made_more xs i x y ys after inside is so one more =
+      more ∙ (ap (λ z. ys ++ z ∷ []) one ∙ (ap (λ zs. zs ++ f x ∷ []) so
+      ∙ sym (map_more f xs i x inside ∙ ap (λ z. map f (take i xs) ++ f z ∷ []) (sym is))))

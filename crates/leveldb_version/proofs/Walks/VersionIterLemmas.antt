@@ -3,7 +3,8 @@ use Rattle.std.specs.Prelude.{IfErr, IfOk, IsErrAnd, IsSome, OnErr, OnOk, is_som
 use Rattle.std.proofs.Common.{◌≡◌, ◌≢◌, ◌⊎◌, inl, inr, ⊎_elim, ℕ, zero, suc, ◌+◌, ◌-◌, ◌<◌, ◌≤◌, ◌^◌, Bool, true, false, List, [], ◌∷◌, ◌++◌, length, map, Option, None, Some, Result, Ok, Err, refl, sym, ◌∙◌, ap, subst, arith}
 use Rattle.std.proofs.lemmas.Bool.{cases_lt}
 use Rattle.std.proofs.lemmas.List.{length-append, length-map}
-use Rattle.std.proofs.lemmas.Result.{on_ok_weaker}
+use Rattle.std.proofs.lemmas.Option.{slice_get-get_or}
+use Rattle.std.proofs.lemmas.Result.{IfOk-at_ok, on_ok_weaker}
 use Rattle.std.specs.declared.cmp.Ordering.{Ordering}
 use Rattle.leveldb_base.specs.Error.{IsOutOfMemory}
 use Rattle.leveldb_base.specs.KeyTypes.{internal_cmp}
@@ -18,7 +19,7 @@ use Rattle.leveldb_env.specs.declared.env.Env.{Ghosts as EnvGhosts}
 use Rattle.leveldb_env.specs.declared.filter.FilterPolicy.{Ghosts as FilterGhosts}
 use Rattle.leveldb_iter.specs.Walk.{KeyOrder, MovesWalk, Resets, key_order}
 use Rattle.leveldb_table.proofs.TableReaderWalkLemmas.{after_none, is_there_along, last_block, next_in, pairs_cut, position_in, position_none, position_out, some_none, some_there, to_block}
-use Rattle.leveldb_table.specs.BlockWalk.{pairs_over, position_over}
+use Rattle.leveldb_table.specs.BlockWalk.{BlockPosition, pairs_over, position_over}
 use Rattle.leveldb_table.specs.Table.{Part, index_pair}
 use Rattle.leveldb_table.specs.TableReader.{pairs_in}
 use Rattle.leveldb_table.specs.TableReaderBlocks.{IsAfterLine}
@@ -64,6 +65,42 @@ each_long R (x ∷ files) (t ∷ tables) each = let rest = each_long R files tab
 pub here_none : {C : Type 0} (core : Option (TablePlace C)) → core_position core ≡ None → core_here core ≡ None
 here_none None none = refl
 here_none (Some core) none = ap (pair_at (inner_pairs core.inner)) none
+
+-- it is at a pair where it has a position
+pub here_some : {C : Type 0} (core : Option (TablePlace C)) → is_some (core_here core) ≡ is_some (core_position core)
+here_some None = refl
+here_some {C = C} (Some core) = by core.inner
+  where
+    within : (pairs : List Pair) (n : ℕ) → is_some (pair_at pairs (position_within pairs n)) ≡ is_some (position_within pairs n)
+    within pairs n = ⊎_elim
+        (λ (inside : n < length pairs).
+        let is = position_in pairs n inside in
+        ap (λ p. is_some (pair_at pairs p)) is ∙ ap is_some (slice_get-get_or pairs n ([], []) inside) ∙ sym (ap is_some is))
+        (λ (past : length pairs ≤ n).
+        let is = position_out pairs n past in
+        ap (λ p. is_some (pair_at pairs p)) is ∙ sym (ap is_some is)) (cases_lt n (length pairs))
+
+    by : (inner : Option (BlockPosition C)) → is_some (pair_at (inner_pairs inner) (inner_position inner)) ≡ is_some (inner_position inner)
+    by None = refl
+    by (Some walk) = within (pairs_over walk) walk.at
+
+-- so a result that tells of its position tells of its pair
+pub told_here : {C : Type 0} (core : Option (TablePlace C)) (result : Result Bool Status) → IfOk result (λ there. there ≡ is_some (core_position core))
+    → IfOk result (λ there. there ≡ is_some (core_here core))
+told_here core (Ok there) told = told ∙ sym (here_some core)
+told_here core (Err status) told = tt
+
+pub told_moved : {C : Type 0} (core : Option (TablePlace C)) {result : Result Bool Status} {there : Bool} → result ≡ Ok there
+    → IfOk result (λ it. it ≡ is_some (core_position core)) → there ≡ is_some (core_here core)
+told_moved core is told = IfOk-at_ok (λ it. it ≡ is_some (core_position core)) is told ∙ sym (here_some core)
+
+-- after a step in its block
+pub told_inside : {C : Type 0} (to : List Pair → Option ℕ → Option ℕ) (old : Option (TablePlace C)) (result : Result Bool Status) (new : Option (TablePlace C)) → StepsInBlock to old result new
+    → result ≡ Ok true → true ≡ is_some (core_here new)
+told_inside to None result new step made =
+    absurd (cc (sym step.1 ∙ made))
+told_inside to (Some old) result None step made = absurd step
+told_inside to (Some old) result (Some new) step made = told_moved (Some new) made step.there
 
 -- a walk at no pair of its table
 pub at_none : {C : Type 0} (order : CmpGhosts C) (cmp : List ℕ → List ℕ → Ordering) (parts : List Part) (core : Option (TablePlace C)) → IsIndexedFor order cmp parts core → core_position core ≡ None → IsAtInTable order cmp parts core None

@@ -1,4 +1,7 @@
-use Rattle.std.proofs.Common.{◌≡◌, ◌∙◌, ◌∷◌, List, [], ℕ, ap, false, rules}
+use Rattle.std.proofs.Common.{◌≡◌, ◌∙◌, ◌∷◌, List, [], ℕ, ap, false, refl, rules, true}
+use Rattle.std.specs.Result.{is_err}
+use Rattle.leveldb_base.specs.Error.{IsOutOfMemory}
+use Rattle.leveldb_version.proofs.ExitLemmas.{cause_passed}
 use Rattle.std.specs.Option.{unwrap_or}
 use Rattle.leveldb_mem.specs.Log.{log_block_size}
 use Rattle.leveldb_mem.specs.Log.Writer.{after_frame, new_writer}
@@ -9,7 +12,7 @@ use Rattle.leveldb_files.specs.Stores.Paths.{manifest_path}
 use Rattle.leveldb_files.specs.Edits.Edit.{Edit, edit_bytes}
 use Rattle.leveldb_version.specs.Edits.VersionEdit.{edit_of}
 use Rattle.leveldb_version.specs.Sets.VersionSetValue.{VersionSetValue}
-use Rattle.leveldb_version.proofs.Sets.LogEditLemmas.{begun_view, log_of, made_changes, ok_cause, state_of}
+use Rattle.leveldb_version.proofs.Sets.LogEditLemmas.{begun_view, broken_view, is_so, log_of, made_changes, not_begun, not_made, ok_cause, same_view, state_of}
 use Rattle.leveldb_version.proofs.version_set.live_files.LiveFiles.begin_manifest.Goals as goal
 
 pub returns-clause-begins : goal.returns-clause-begins
@@ -42,3 +45,62 @@ returns-clause-begins g c = λ logged is.
       err = tt;
       cause = ok_cause c.in_ok-made.was c.make_manifest-made.ensures.cause;
     }
+
+pub returns-in_err-reserve : goal.returns-in_err-reserve
+returns-in_err-reserve g c =
+    let exit = c.from_residual in
+    let memory = cause_passed IsOutOfMemory exit.result c.in_err-reserve.field-0.0 exit.ensures.1 c.in_err-reserve.ensures.memory in
+    record {
+      begins = λ logged is. not_begun exit.result exit.ensures.0 memory (same_view _ _ c.self.view_is c.in_err-reserve.ensures.same refl);
+      locks = λ modelled. refl;
+    }
+
+pub returns-in_err-path : goal.returns-in_err-path
+returns-in_err-path g c =
+    let exit = c.from_residual-in_err-path in
+    let memory = cause_passed IsOutOfMemory exit.result c.in_err-path.field-0.0 exit.ensures.1 c.in_err-path.ensures.cause in
+    record {
+      begins = λ logged is. not_begun exit.result exit.ensures.0 memory (same_view _ _ c.self.view_is c.in_ok-reserve.ensures.same refl);
+      locks = λ modelled. refl;
+    }
+
+pub returns-in_err-encode : goal.returns-in_err-encode
+returns-in_err-encode g c =
+    let exit = c.from_residual-in_err-encode in
+    let memory = cause_passed IsOutOfMemory exit.result c.in_err-encode.field-0.0 exit.ensures.1 c.in_err-encode.ensures.memory in
+    record {
+      begins = λ logged is. not_begun exit.result exit.ensures.0 memory (same_view _ _ c.self.view_is c.in_ok-reserve.ensures.same refl);
+      locks = λ modelled. refl;
+    }
+
+pub returns-in_err-records : goal.returns-in_err-records
+returns-in_err-records g c =
+    let exit = c.from_residual-in_err-records in
+    let memory = cause_passed IsOutOfMemory exit.result c.in_err-records.field-0.0 exit.ensures.1 c.in_err-records.ensures.memory in
+    record {
+      begins = λ logged is. not_begun exit.result exit.ensures.0 memory (same_view _ _ c.self.view_is c.in_ok-reserve.ensures.same refl);
+      locks = λ modelled. refl;
+    }
+
+pub returns-in_err-made : goal.returns-in_err-made
+returns-in_err-made g c =
+    let exit = c.from_residual-in_err-made in
+    let set : VersionSetValue = c.args.self.now in
+    let store : c.deref-2.result.now ≡ set.store = search rules in
+    let number : c.self.inside.manifest_number ≡ set.manifest_number = ap (λ (s : VersionSetValue). s.manifest_number) c.self.view_is in
+    let full_is : edit_of c.reserve.new.full ≡ set.full = c.in_ok-reserve.ensures.same ∙ ap (λ (s : VersionSetValue). s.full) c.self.view_is in
+    let whole : c.in_ok-encode.field-0.items ≡ edit_bytes set.full = c.in_ok-encode.ensures.ok ∙ ap edit_bytes full_is in
+    let fails : c.is_err-self-inside.result ≡ true = c.is_err-self-inside.ensures.value ∙ ap is_err c.in_err-made.was in
+    record {
+      begins = λ logged is.
+          let text : c.args.text.items ≡ edit_record set logged = c.requires.encoded ∙ ap edit_bytes is in
+          let bytes : c.in_ok-records.records.bytes.items ≡ manifest_bytes (new_records set logged) =
+          c.in_ok-records.ensures.bytes ∙ ap (λ x. manifest_bytes (x ∷ c.args.text.items ∷ [])) whole ∙ ap (λ x. manifest_bytes (edit_bytes set.full ∷ x ∷ [])) text in
+          not_made c.make_manifest-made.result c.in_err-made.field-0.0 c.in_err-made.was c.deref-2.result.now c.self.inside.manifest_number c.in_ok-records.records.bytes.items store number bytes
+          exit.result exit.ensures.1 c.make_manifest-made.ensures.does c.make_manifest-made.ensures.bytes c.make_manifest-made.ensures.cause
+          (broken_view _ _ c.self.view_is c.in_ok-reserve.ensures.same (is_so c.is_err-self-inside.result c.self.inside.manifest fails));
+      locks = c.make_manifest-made.ensures.locks;
+    }
+
+pub returns-clause-locks : goal.returns-clause-locks
+returns-clause-locks g c = c.make_manifest-made.ensures.locks

@@ -1,10 +1,14 @@
-use Rattle.std.proofs.Common.{◌≡◌, ◌∙◌, false, Some, ⊎_elim, ap, inl, inr, refl, rules, sym}
-use Rattle.std.proofs.lemmas.Result.{err_from_is_err_and}
+use Rattle.std.proofs.Common.{◌≡◌, ◌∙◌, ◌<◌, ◌^◌, None, false, Some, ⊎_elim, ap, arith, inl, inr, refl, rules, subst, sym}
+use Rattle.std.proofs.lemmas.Result.{IfOk-from_err, err_from_is_err_and}
+use Rattle.leveldb_base.specs.Error.{IsOutOfMemory}
+use Rattle.leveldb_env.proofs.EnvLemmas.{begun}
+use Rattle.leveldb_env.specs.Env.{AreBytes}
+use Rattle.leveldb_version.proofs.ExitLemmas.{cause_passed}
 use Rattle.leveldb_version.specs.Sets.LogEdit.{edit_record}
 use Rattle.leveldb_files.specs.Edits.Edit.{edit_bytes}
 use Rattle.leveldb_version.specs.Edits.VersionEdit.{edit_of}
 use Rattle.leveldb_version.specs.Sets.VersionSetValue.{OpenManifest, VersionSetValue, manifest_state}
-use Rattle.leveldb_version.proofs.Sets.LogEditLemmas.{broken_view, has_bytes, is_made, is_so, same_view, state_of, used_one}
+use Rattle.leveldb_version.proofs.Sets.LogEditLemmas.{broken_view, has_bytes, is_made, is_so, none_used, not_appended, not_begun, same_view, state_of, used_one}
 use Rattle.leveldb_version.proofs.version_set.live_files.LiveFiles.log.Goals as goal
 
 pub append_record-appended-requires-clause-some : goal.append_record-appended-requires-clause-some
@@ -44,3 +48,56 @@ pub returns-clause-not_made : goal.returns-clause-not_made
 returns-clause-not_made g c = λ logged is none.
     let made : c.self.inside.manifest ≡ Some c.in-Some.manifest = search rules in
     absurd (is_made c.self.inside.broken c.in-Some.manifest (ap (manifest_state c.self.inside.broken) (sym made) ∙ ap (λ (s : VersionSetValue). s.manifest) c.self.view_is ∙ none))
+
+pub returns-in_err-text : goal.returns-in_err-text
+returns-in_err-text g c =
+    let exit = c.from_residual in
+    let memory = cause_passed IsOutOfMemory exit.result c.in_err-text.field-0.0 exit.ensures.1 c.in_err-text.ensures.memory in
+    record {
+      used = λ logged is manifest used. not_appended exit.result exit.ensures.0 memory refl;
+      not_made = λ logged is none. not_begun exit.result exit.ensures.0 memory refl;
+      bytes = λ logged is manifest used. inr (IfOk-from_err exit.result _ exit.ensures.0, λ modelled. begun (g.E.Env.observed c.args.env.now) refl);
+      locks = λ modelled. refl;
+    }
+
+pub returns-in_default : goal.returns-in_default
+returns-in_default g c =
+    let state : manifest_state c.self.inside.broken None ≡ c.args.self.now.manifest =
+    ap (manifest_state c.self.inside.broken) (sym c.in_default.is) ∙ ap (λ (s : VersionSetValue). s.manifest) c.self.view_is in
+    record {
+      used = λ logged is manifest used. absurd (none_used c.self.inside.broken manifest (state ∙ used));
+      not_made = λ logged is none. c.begin_manifest.ensures.begins logged is;
+      bytes = λ logged is manifest used. absurd (none_used c.self.inside.broken manifest (state ∙ used));
+      locks = c.begin_manifest.ensures.locks;
+    }
+
+pub returns-in_err-reserve : goal.returns-in_err-reserve
+returns-in_err-reserve g c =
+    let exit = c.from_residual-in_err-reserve in
+    let memory = cause_passed IsOutOfMemory exit.result c.in_err-reserve.field-0.0 exit.ensures.1 c.in_err-reserve.ensures.memory in
+    let made : c.self.inside.manifest ≡ Some c.in-Some.manifest = search rules in
+    let same = same_view _ _ c.self.view_is c.in_err-reserve.ensures.same (sym (ap (manifest_state c.self.inside.broken) made)) in
+    record {
+      used = λ logged is manifest used. not_appended exit.result exit.ensures.0 memory same;
+      not_made = λ logged is none. not_begun exit.result exit.ensures.0 memory same;
+      bytes = λ logged is manifest used. inr (IfOk-from_err exit.result _ exit.ensures.0, λ modelled. begun (g.E.Env.observed c.args.env.now) refl);
+      locks = λ modelled. refl;
+    }
+
+pub returns-in_err-appended-clause-locks : goal.returns-in_err-appended-clause-locks
+returns-in_err-appended-clause-locks g c = c.append_record-appended.ensures.locks
+
+pub returns-in_err-appended-clause-bytes : goal.returns-in_err-appended-clause-bytes
+returns-in_err-appended-clause-bytes g c = λ logged is manifest used.
+    let text : c.deref.result.now ≡ edit_record c.args.self.now logged = c.deref.ensures.value ∙ c.in_ok-text.ensures.ok ∙ ap edit_bytes is in
+    let fits : c.self.inside.next_file < 2 ^ 64 = omega arith in
+    inl (subst AreBytes text c.append_record-appended.ensures.bytes, subst (λ n. n < 2 ^ 64) (ap (λ (s : VersionSetValue). s.next_file) c.self.view_is) fits)
+
+pub returns-clause-locks : goal.returns-clause-locks
+returns-clause-locks g c = c.append_record-appended.ensures.locks
+
+pub returns-clause-bytes : goal.returns-clause-bytes
+returns-clause-bytes g c = λ logged is manifest used.
+    let text : c.deref.result.now ≡ edit_record c.args.self.now logged = c.deref.ensures.value ∙ c.in_ok-text.ensures.ok ∙ ap edit_bytes is in
+    let fits : c.self.inside.next_file < 2 ^ 64 = omega arith in
+    inl (subst AreBytes text c.append_record-appended.ensures.bytes, subst (λ n. n < 2 ^ 64) (ap (λ (s : VersionSetValue). s.next_file) c.self.view_is) fits)
