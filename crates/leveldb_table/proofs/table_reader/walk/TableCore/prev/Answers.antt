@@ -1,9 +1,10 @@
-use Rattle.std.proofs.Common.{sym, ◌∙◌, ap, subst}
+use Rattle.std.proofs.Common.{sym, refl, ◌∙◌, ap, subst}
 use Rattle.leveldb_env.specs.contracts.compressor.CompressorListCompressors.TheImpl
 use Rattle.leveldb_table.specs.BlockWalk.{pairs_over, position_over}
 use Rattle.leveldb_table.specs.TableReaderWalk.{IsAtPairOrNone, inner_position, inner_pairs}
 use Rattle.leveldb_table.proofs.TableReaderWalkLemmas.{none_there, not_none, moves_enters}
 use Rattle.leveldb_table.proofs.TableReaderMovesLemmas.{before_first, backward_previous}
+use Rattle.leveldb_table.proofs.RefusalLemmas.{IfOk-refused}
 use Rattle.leveldb_table.proofs.table_reader.walk.TableCore.prev.Goals as goal
 
 pub returns-clause-moves : goal.returns-clause-moves
@@ -15,3 +16,27 @@ returns-clause-moves g c =
     (λ parts position fit is_there. before_first parts (position_over c.step_back.new.self.index) (inner_pairs old.inner) (inner_position old.inner) position (not_none (inner_position old.inner) (sym c.valid.ensures ∙ c.if-not-valid.false))
     (sym step.ok ∙ none) (subst (λ z. IsAtPairOrNone parts z (inner_pairs old.inner) (inner_position old.inner) position) (ap position_over (sym step.index)) is_there.at))
     (λ bytes out. backward_previous g.C.Cmp ((TheImpl.ghosts g.dyn-1).codings c.args.reader.now.compressors.now) (g.C.Cmp.cmp c.args.reader.now.table.now.cmp) bytes old c.step_back.new.self out step.index (not_none (inner_position old.inner) (sym c.valid.ensures ∙ c.if-not-valid.false)) (sym step.ok ∙ none)) c.to_block_before.ensures.enters
+
+pub returns-then-not-valid-clause-same : goal.returns-then-not-valid-clause-same
+returns-then-not-valid-clause-same g c = record { table = refl; compressors = refl; env = refl; cache = refl }
+
+pub returns-in_err-step_back-clause-same : goal.returns-in_err-step_back-clause-same
+returns-in_err-step_back-clause-same g c = record { table = refl; compressors = refl; env = refl; cache = refl }
+
+pub returns-then-branch-clause-same : goal.returns-then-branch-clause-same
+returns-then-branch-clause-same g c = record { table = refl; compressors = refl; env = refl; cache = refl }
+
+pub returns-clause-same : goal.returns-clause-same
+returns-clause-same g c = c.to_block_before.ensures.same
+
+pub returns-then-not-valid-clause-there : goal.returns-then-not-valid-clause-there
+returns-then-not-valid-clause-there g c = sym c.if-not-valid.true ∙ c.valid.ensures
+
+pub returns-in_err-step_back-clause-there : goal.returns-in_err-step_back-clause-there
+returns-in_err-step_back-clause-there g c = IfOk-refused _ _ c.from_residual.result c.from_residual.ensures.1
+
+pub returns-then-branch-clause-there : goal.returns-then-branch-clause-there
+returns-then-branch-clause-there g c = sym c.if-branch.true ∙ c.in_ok-step_back.ensures.there
+
+pub returns-clause-there : goal.returns-clause-there
+returns-clause-there g c = c.to_block_before.ensures.there
