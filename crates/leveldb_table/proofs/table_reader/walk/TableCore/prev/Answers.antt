@@ -1,10 +1,17 @@
-use Rattle.std.proofs.Common.{sym, refl, ◌∙◌, ap, subst}
+use Rattle.std.proofs.Common.{sym, refl, ◌∙◌, ap, subst, ◌≡◌, ℕ, List, Option, None, Some, Ok}
 use Rattle.leveldb_env.specs.contracts.compressor.CompressorListCompressors.TheImpl
 use Rattle.leveldb_table.specs.BlockWalk.{pairs_over, position_over}
-use Rattle.leveldb_table.specs.TableReaderWalk.{IsAtPairOrNone, inner_position, inner_pairs}
-use Rattle.leveldb_table.proofs.TableReaderWalkLemmas.{none_there, not_none, moves_enters}
+use Rattle.leveldb_table.specs.TableReaderWalk.{IsAtPairOrNone, inner_position, inner_pairs, TablePosition, table_position}
+use Rattle.leveldb_table.proofs.TableReaderWalkLemmas.{none_there, not_none, moves_enters, some_none}
 use Rattle.leveldb_table.proofs.TableReaderMovesLemmas.{before_first, backward_previous}
 use Rattle.leveldb_table.proofs.RefusalLemmas.{IfOk-refused}
+use Rattle.std.specs.declared.cmp.Ordering.{Ordering}
+use Rattle.leveldb_base.specs.Types.{Pair, previous_position}
+use Rattle.leveldb_env.specs.Compressor.{Codings}
+use Rattle.leveldb_table.specs.Table.{Part}
+use Rattle.leveldb_table.specs.TableReaderMoves.{ToPreviousPair}
+use Rattle.leveldb_table.proofs.BlockCacheLemmas.{GainsBlocks-refl}
+use Rattle.leveldb_table.proofs.TableBlockLemmas.{KeepsDisk-refl, reads_ok}
 use Rattle.leveldb_table.proofs.table_reader.walk.TableCore.prev.Goals as goal
 
 pub returns-clause-moves : goal.returns-clause-moves
@@ -40,3 +47,30 @@ returns-then-branch-clause-there g c = sym c.if-branch.true ∙ c.in_ok-step_bac
 
 pub returns-clause-there : goal.returns-clause-there
 returns-clause-there g c = c.to_block_before.ensures.there
+
+-- from no position there is none before
+none_before : (parts : List Part) (line : Option ℕ) (pairs : List Pair) (inner position : Option ℕ) → inner ≡ None → IsAtPairOrNone parts line pairs inner position → IsAtPairOrNone parts line pairs inner (previous_position position)
+none_before parts line pairs inner None none at = none
+none_before parts line pairs inner (Some n) none at = absurd (some_none (sym at.at_position ∙ none))
+
+stays_none : (codings : Codings) (cmp : List ℕ → List ℕ → Ordering) (bytes : List ℕ) (lines : List Pair) (at : Option ℕ) (old : TablePosition) → at ≡ None → ToPreviousPair codings cmp bytes lines at old (Ok old)
+stays_none codings cmp bytes lines None old none = refl
+stays_none codings cmp bytes lines (Some i) old none = absurd (some_none none)
+
+pub returns-then-not-valid-clause-moves : goal.returns-then-not-valid-clause-moves
+returns-then-not-valid-clause-moves g c =
+    let old = c.args.self.now in
+    let none = none_there (inner_position old.inner) (sym c.valid.ensures ∙ c.if-not-valid.true) in
+    record {
+      reads = reads_ok g.E.Env (KeepsDisk-refl g.E.Env c.args.reader.now.env.now) refl;
+      ok = λ bytes has parts position right fit holds is_there. record {
+        lines = is_there.lines;
+        ordered = is_there.ordered;
+        at = none_before parts (position_over old.index) (inner_pairs old.inner) (inner_position old.inner) position none is_there.at;
+      };
+      steps = λ bytes has holds. stays_none _ _ bytes (pairs_over old.index) (inner_position old.inner) (table_position old) none;
+      err = tt;
+      gathers = GainsBlocks-refl c.args.reader.now.table.now.id _ c.args.reader.now.cache.now;
+      same_lines = refl;
+      same_order = refl;
+    }
