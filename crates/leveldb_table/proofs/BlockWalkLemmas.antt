@@ -4,7 +4,7 @@ use Rattle.std.proofs.lemmas.Bool.{cases_lt}
 use Rattle.std.proofs.lemmas.Bool.Decides.{nat_tests}
 use Rattle.std.proofs.lemmas.List.{take_at, drop_at, take_all, append-nil, length-take-le, drop-drop}
 use Rattle.std.proofs.lemmas.List.Concat.{flat_map-append}
-use Rattle.std.specs.Prelude.{MatchOption}
+use Rattle.std.specs.Prelude.{MatchOption, is_some}
 use Rattle.std.specs.Borrow.{Bor}
 use Rattle.std.specs.Ordering.{is_lt}
 use Rattle.std.specs.declared.cmp.Ordering.{Ordering}
@@ -818,3 +818,8 @@ starts_by {cmp = cmp} {entries = entries} o known held target a point key there 
 -- a move from one position to another, said of positions that are the same
 pub moved : {T E : Type 0} (result : Result T E) (to : Option ℕ → Option ℕ) {old new from there : Option ℕ} → old ≡ from → new ≡ there → OnOk result (there ≡ to from) → OnOk result (new ≡ to old)
 moved result to {old = old} {there = there} same_old same_new ok = subst (λ z. OnOk result (z ≡ to old)) (sym same_new) (subst (λ z. OnOk result (there ≡ to z)) (sym same_old) ok)
+
+-- a position is one of a pair exactly if it has a spot
+pub some_position : (entries : List BlockEntry) (spot : Option Spot) → is_some (position_of entries spot) ≡ is_some spot
+some_position entries None = refl
+some_position entries (Some spot) = refl

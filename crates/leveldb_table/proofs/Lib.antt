@@ -17,6 +17,7 @@ pub mod TableReaderWalkLemmas
 pub mod TableReaderMovesLemmas
 mod TableReadsLemmas
 pub mod TableMoreLemmas
+mod RefusalLemmas
 pub mod ReadableTableLemmas
 pub mod ReadableFileLemmas
 pub mod ReadableJudgeLemmas

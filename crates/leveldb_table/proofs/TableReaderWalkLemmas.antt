@@ -180,6 +180,10 @@ module _ {parts : List Part} {line : Option ℕ} {pairs : List Pair} {position :
       } in
       subst (IsAtPairOrNone parts line pairs (Some k)) (sym (position_in (pairs_in parts) (n + 1) (within_in is_there))) is_there
 
+no_pairs : (parts : List Part) → length parts ≡ 0 → length (pairs_in parts) ≡ 0
+no_pairs [] e = refl
+no_pairs (part ∷ parts) e = absurd (omega (arith, e))
+
 module _ {parts : List Part} {line position : Option ℕ} (p : IsAfterLine parts line position) where
   -- the next line is that of the first block after
   at_after : (i : ℕ) → next_position (map index_pair parts) line ≡ Some i → (i ≡ length p.before) × (i < length parts)
@@ -210,6 +214,14 @@ module _ {parts : List Part} {line position : Option ℕ} (p : IsAfterLine parts
         counts = omega arith;
       } in
       subst (IsAtPairOrNone parts (Some i) part.pairs (Some 0)) (sym (p.to ∙ position_in (pairs_in parts) (length (pairs_in p.before)) (within_in is_there))) is_there
+
+  -- without a next line there is no pair after
+  pub no_block_after : next_position (map index_pair parts) line ≡ None → position ≡ None
+  no_block_after e =
+      let past = position_none (map index_pair parts) (length p.before) (sym p.next ∙ e) in
+      let all : length (pairs_in p.after) ≡ 0 = no_pairs p.after (omega (arith, past, length-map parts index_pair, ap length p.parted, length-append p.before p.after)) in
+      let many = ap length (ap pairs_in p.parted ∙ pairs_cut p.before p.after) in
+      p.to ∙ position_out (pairs_in parts) (length (pairs_in p.before)) (omega (arith, all, many, length-append (pairs_in p.before) (pairs_in p.after)))
 
 -- ---- looking up
 
@@ -521,6 +533,15 @@ module _ {parts : List Part} {line : Option ℕ} {pairs : List Pair} {position :
         counts = refl;
       } in
       subst (IsAtPairOrNone parts (Some i) part.pairs (Some k)) (sym (prev_is n (length (pairs_in cut.before) + k) many)) is_there
+
+  -- without a line before there is no pair before
+  pub no_block_before : previous_position position ≡ None → previous_position line ≡ None → previous_position (Some n) ≡ None
+  no_block_before e l =
+      let counts = s.counts in
+      let first = prev_none s.inner (ap previous_position (sym s.at_position) ∙ e) in
+      let none = no_pairs s.before (prev_none (length s.before) (ap previous_position (sym s.at_line) ∙ l)) in
+      let is : n ≡ 0 = omega (arith, counts, first, none) in
+      ap (λ m. previous_position (Some m)) is
 
 -- the last position of so many pairs
 last_is : (pairs : List Pair) (n : ℕ) → length pairs ≡ n + 1 → last_position pairs ≡ Some n

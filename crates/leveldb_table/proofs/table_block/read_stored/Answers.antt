@@ -1,9 +1,12 @@
-use Rattle.std.proofs.Common.{◌≡◌, length, take, sym, ◌∙◌, ap, inr, arith}
+use Rattle.std.proofs.Common.{◌≡◌, length, take, sym, ◌∙◌, ap, inr, arith, refl}
 use Rattle.std.proofs.lemmas.List.{length-take-le}
 use Rattle.leveldb_base.specs.BlockHandle.{HandleFits}
 use Rattle.leveldb_table.specs.Table.{with_trailer}
-use Rattle.leveldb_table.proofs.TableBlockLemmas.{ends_stored, reads_own, reads_refused, reads_weaker}
+use Rattle.leveldb_table.proofs.TableBlockLemmas.{ends_stored, reads_own, reads_refused, reads_weaker, KeepsDisk-refl, reads_ok}
 use Rattle.leveldb_table.proofs.TableLemmas.{read_as, is_there_as, stores_from}
+use Rattle.std.proofs.lemmas.Result.{IfOk-from_err}
+use Rattle.leveldb_table.proofs.RefusalLemmas.{IfOk-refused}
+use Rattle.leveldb_table.proofs.ReadableTableLemmas.{stored_within}
 use Rattle.leveldb_table.proofs.table_block.read_stored.Goals as goal
 
 pub returns-in_err-stored-clause-reads : goal.returns-in_err-stored-clause-reads
@@ -34,3 +37,24 @@ returns-clause-ok g c = λ bytes has.
     ap length cut ∙ length-take-le c.size-size.result items (omega (arith, c.in_ok-stored.ensures.size, c.in-Some.ensures.1)) ∙ c.size-size.ensures in
     stores_from bytes handle id c.truncate.new.self.items fits long
     (sym read ∙ sym c.as_slice.ensures ∙ c.in-Some-checked_id.ensures.some ∙ ap (λ z. with_trailer id (take c.size-size.result z)) c.as_slice.ensures ∙ sym (ap (with_trailer id) cut))
+
+pub returns-in_default-clause-ok : goal.returns-in_default-clause-ok
+returns-in_default-clause-ok g c = IfOk-refused _ _ c.corruption.result c.corruption.ensures
+
+pub returns-in_err-stored-clause-ok : goal.returns-in_err-stored-clause-ok
+returns-in_err-stored-clause-ok g c = IfOk-from_err _ _ c.from_residual.ensures.0
+
+pub returns-in_default-checked_id-clause-ok : goal.returns-in_default-checked_id-clause-ok
+returns-in_default-checked_id-clause-ok g c = IfOk-refused _ _ c.corruption-in_default-checked_id.result c.corruption-in_default-checked_id.ensures
+
+pub returns-clause-reads : goal.returns-clause-reads
+returns-clause-reads g c =
+    let read = c.in_ok-stored.ensures.reads in
+    reads_ok g.E.Env read.kept_disk read.cause.ok
+
+pub returns-in_default-clause-reads : goal.returns-in_default-clause-reads
+returns-in_default-clause-reads g c =
+    reads_own g.E.Env c.corruption.result (KeepsDisk-refl g.E.Env c.args.env.now) refl c.corruption.ensures (λ status code. inr (
+      code,
+      λ bytes has id stored there. c.in_default.ensures (omega (arith, stored_within there, has.fits, c.size-size.ensures)),
+    ))

@@ -1,9 +1,14 @@
-use Rattle.std.proofs.Common.{◌≡◌, ◌+◌, ◌^◌, ◌≤◌, true, false, ◌++◌, ◌∷◌, [], ◌%◌, ◌<◌, nat_eq, length, take, drop, refl, sym, ◌∙◌, ap, subst, arith, rules, length-drop}
+use Rattle.std.proofs.Common.{◌≡◌, ◌+◌, ◌^◌, ◌≤◌, true, false, ◌++◌, ◌∷◌, [], ◌%◌, ◌<◌, nat_eq, length, take, drop, refl, sym, ◌∙◌, ap, subst, arith, rules, length-drop, inl, inr, ℕ, List, flat_map, Result, Ok, Err}
 use Rattle.std.proofs.lemmas.List.{take_rest}
-use Rattle.leveldb_table.specs.Block.{parts_bytes}
-use Rattle.leveldb_table.specs.BlockBuilder.{AreEntriesBuilt, points_more, shared_len}
+use Rattle.leveldb_table.specs.Block.{parts_bytes, BlockEntry, entry_bytes}
+use Rattle.leveldb_table.specs.BlockBuilder.{AreEntriesBuilt, points_more, shared_len, IsEntryTooLarge}
 use Rattle.leveldb_table.specs.BlockBuilderLaws.{HasEntriesBuilt-prop}
 use Rattle.leveldb_table.proofs.BlockBuilderLemmas.{built_are, entries_are, pairs_are, OnErr-always, parts_room, count_small, built_more, new_entry, new_pairs, entry_is}
+use Rattle.leveldb_table.proofs.RefusalLemmas.{IfErr-refused, OnOk-refused}
+use Rattle.std.specs.Prelude.{IsErrAnd}
+use Rattle.leveldb_base.specs.Error.{IsOutOfMemory}
+use Rattle.leveldb_base.specs.declared.error.Status.{Status}
+use Rattle.leveldb_base.specs.declared.error.StatusCode.TheVariants.{NotSupported, OutOfMemory}
 use Rattle.leveldb_table.proofs.block_builder.BlockBuilder.add.Goals as goal
 
 pub returns-then-not-fits-clause-err : goal.returns-then-not-fits-clause-err
@@ -119,3 +124,98 @@ same-self g c =
       begun = it.begun;
       built = built;
     }) (HasEntriesBuilt-prop (g.C.Cmp.cmp it.cmp) it.interval it.buffer.items it.points.items it.last_key.items it.count it.begun _ _)
+
+pub returns-then-not-fits-clause-ok : goal.returns-then-not-fits-clause-ok
+returns-then-not-fits-clause-ok g c = OnOk-refused _ _ c.err.result c.err.ensures.code
+
+pub returns-in_err-reserve-clause-ok : goal.returns-in_err-reserve-clause-ok
+returns-in_err-reserve-clause-ok g c = OnOk-refused _ _ c.from_residual.result c.from_residual.ensures.1
+
+pub returns-in_err-reserve-2-clause-ok : goal.returns-in_err-reserve-2-clause-ok
+returns-in_err-reserve-2-clause-ok g c = OnOk-refused _ _ c.from_residual-in_err-reserve-2.result c.from_residual-in_err-reserve-2.ensures.1
+
+pub returns-in_err-reserve-3-clause-ok : goal.returns-in_err-reserve-3-clause-ok
+returns-in_err-reserve-3-clause-ok g c = OnOk-refused _ _ c.from_residual-in_err-reserve-3.result c.from_residual-in_err-reserve-3.ensures.1
+
+pub returns-then-not-fits-clause-order : goal.returns-then-not-fits-clause-order
+returns-then-not-fits-clause-order g c = refl
+
+pub returns-then-not-fits-clause-interval : goal.returns-then-not-fits-clause-interval
+returns-then-not-fits-clause-interval g c = refl
+
+pub returns-in_err-reserve-clause-order : goal.returns-in_err-reserve-clause-order
+returns-in_err-reserve-clause-order g c = ap (λ core. core.cmp) c.self.view_is
+
+pub returns-in_err-reserve-clause-interval : goal.returns-in_err-reserve-clause-interval
+returns-in_err-reserve-clause-interval g c = ap (λ core. core.interval) c.self.view_is
+
+pub returns-in_err-reserve-2-clause-order : goal.returns-in_err-reserve-2-clause-order
+returns-in_err-reserve-2-clause-order g c = ap (λ core. core.cmp) c.self.view_is
+
+pub returns-in_err-reserve-2-clause-interval : goal.returns-in_err-reserve-2-clause-interval
+returns-in_err-reserve-2-clause-interval g c = ap (λ core. core.interval) c.self.view_is
+
+pub returns-in_err-reserve-3-clause-order : goal.returns-in_err-reserve-3-clause-order
+returns-in_err-reserve-3-clause-order g c = ap (λ core. core.cmp) c.self.view_is
+
+pub returns-in_err-reserve-3-clause-interval : goal.returns-in_err-reserve-3-clause-interval
+returns-in_err-reserve-3-clause-interval g c = ap (λ core. core.interval) c.self.view_is
+
+pub returns-clause-order : goal.returns-clause-order
+returns-clause-order g c = ap (λ core. core.cmp) c.self.view_is
+
+pub returns-clause-interval : goal.returns-clause-interval
+returns-clause-interval g c = ap (λ core. core.interval) c.self.view_is
+
+pub returns-then-not-fits-clause-cause : goal.returns-then-not-fits-clause-cause
+returns-then-not-fits-clause-cause g c = IfErr-refused _ _ c.err.result (λ status code. inl code) c.err.ensures.code
+
+pub returns-in_err-reserve-clause-cause : goal.returns-in_err-reserve-clause-cause
+returns-in_err-reserve-clause-cause g c = IfErr-refused _ _ c.from_residual.result (λ status memory. inr memory) c.from_residual.ensures.1
+
+pub returns-in_err-reserve-2-clause-cause : goal.returns-in_err-reserve-2-clause-cause
+returns-in_err-reserve-2-clause-cause g c = IfErr-refused _ _ c.from_residual-in_err-reserve-2.result (λ status memory. inr memory) c.from_residual-in_err-reserve-2.ensures.1
+
+pub returns-in_err-reserve-3-clause-cause : goal.returns-in_err-reserve-3-clause-cause
+returns-in_err-reserve-3-clause-cause g c = IfErr-refused _ _ c.from_residual-in_err-reserve-3.result (λ status memory. inr memory) c.from_residual-in_err-reserve-3.ensures.1
+
+memory_not_large : {T : Type 0} (result : Result T Status) → IsErrAnd result IsOutOfMemory → IsErrAnd result (λ status. status.code ≡ NotSupported) → ⊥
+memory_not_large (Ok value) memory large = memory
+memory_not_large (Err status) memory large = let clash : OutOfMemory ≡ NotSupported = sym memory.0 ∙ large in cc
+
+entry_fits : (entries : List BlockEntry) (key value bytes : List ℕ) → bytes ≡ flat_map entry_bytes entries → length bytes < 2 ^ 32 → length key < 2 ^ 32 → length value < 2 ^ 32 → IsEntryTooLarge entries key value → ⊥
+entry_fits entries key value bytes encoded small key_small value_small (inl large) = omega (arith, small, ap length encoded, large)
+entry_fits entries key value bytes encoded small key_small value_small (inr (inl large)) = omega (arith, key_small, large)
+entry_fits entries key value bytes encoded small key_small value_small (inr (inr large)) = omega (arith, value_small, large)
+
+pub returns-in_err-reserve-clause-too_large : goal.returns-in_err-reserve-clause-too_large
+returns-in_err-reserve-clause-too_large g c =
+    let fit = c.fits.ensures.0 c.if-not-fits.false in
+    let here = fit.0 in
+    let small : length c.self.inside.buffer.items < 2 ^ 32 = omega (arith, here, c.len.ensures, c.self.inside.buffer.ok.0) in
+    (λ large. absurd (memory_not_large c.from_residual.result c.from_residual.ensures.1 large), λ large. absurd (entry_fits c.self.inside.built.0 _ _ _ c.self.inside.built.1.encoded small fit.1 fit.2
+    (subst (λ core. IsEntryTooLarge core.entries c.args.key.now c.args.value.now) (sym c.self.view_is) large)))
+
+pub returns-in_err-reserve-2-clause-too_large : goal.returns-in_err-reserve-2-clause-too_large
+returns-in_err-reserve-2-clause-too_large g c =
+    let fit = c.fits.ensures.0 c.if-not-fits.false in
+    let here = fit.0 in
+    let small : length c.self.inside.buffer.items < 2 ^ 32 = omega (arith, here, c.len.ensures, c.self.inside.buffer.ok.0) in
+    (λ large. absurd (memory_not_large c.from_residual-in_err-reserve-2.result c.from_residual-in_err-reserve-2.ensures.1 large), λ large. absurd (entry_fits c.self.inside.built.0 _ _ _ c.self.inside.built.1.encoded small fit.1 fit.2
+    (subst (λ core. IsEntryTooLarge core.entries c.args.key.now c.args.value.now) (sym c.self.view_is) large)))
+
+pub returns-in_err-reserve-3-clause-too_large : goal.returns-in_err-reserve-3-clause-too_large
+returns-in_err-reserve-3-clause-too_large g c =
+    let fit = c.fits.ensures.0 c.if-not-fits.false in
+    let here = fit.0 in
+    let small : length c.self.inside.buffer.items < 2 ^ 32 = omega (arith, here, c.len.ensures, c.self.inside.buffer.ok.0) in
+    (λ large. absurd (memory_not_large c.from_residual-in_err-reserve-3.result c.from_residual-in_err-reserve-3.ensures.1 large), λ large. absurd (entry_fits c.self.inside.built.0 _ _ _ c.self.inside.built.1.encoded small fit.1 fit.2
+    (subst (λ core. IsEntryTooLarge core.entries c.args.key.now c.args.value.now) (sym c.self.view_is) large)))
+
+pub returns-clause-too_large : goal.returns-clause-too_large
+returns-clause-too_large g c =
+    let fit = c.fits.ensures.0 c.if-not-fits.false in
+    let here = fit.0 in
+    let small : length c.self.inside.buffer.items < 2 ^ 32 = omega (arith, here, c.len.ensures, c.self.inside.buffer.ok.0) in
+    (λ large. absurd large, λ large. absurd (entry_fits c.self.inside.built.0 _ _ _ c.self.inside.built.1.encoded small fit.1 fit.2
+    (subst (λ core. IsEntryTooLarge core.entries c.args.key.now c.args.value.now) (sym c.self.view_is) large)))

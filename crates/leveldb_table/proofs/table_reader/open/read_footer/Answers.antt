@@ -1,6 +1,9 @@
-use Rattle.std.proofs.Common.{inr, refl, sym, ◌∙◌, arith}
+use Rattle.std.proofs.Common.{inr, refl, sym, ◌∙◌, arith, length}
 use Rattle.leveldb_table.proofs.FooterLemmas.{ends_at, ends_long, ends_with}
-use Rattle.leveldb_table.proofs.TableBlockLemmas.{KeepsDisk-refl, reads_own}
+use Rattle.leveldb_table.proofs.TableBlockLemmas.{KeepsDisk-refl, reads_own, reads_ok, reads_refused, reads_weaker}
+use Rattle.std.proofs.lemmas.Result.{IfOk-from_err}
+use Rattle.leveldb_table.proofs.RefusalLemmas.{IfOk-refused}
+use Rattle.std.proofs.lemmas.List.{length-drop}
 use Rattle.leveldb_table.proofs.table_reader.open.read_footer.Goals as goal
 
 pub returns-in_default-clause-reads : goal.returns-in_default-clause-reads
@@ -24,3 +27,22 @@ returns-clause-reads g c =
       λ bytes has meta index ends.
           c.in-None.ensures meta index ends.meta_fits ends.index_fits (c.as_slice.ensures ∙ read.ok bytes has ∙ ends_with c.in-Some.offset (omega (arith, c.in-Some.ensures.0, c.in-Some.ensures.1)) ends),
     ))
+
+pub returns-in_default-clause-ok : goal.returns-in_default-clause-ok
+returns-in_default-clause-ok g c = IfOk-refused _ _ c.too_short.result c.too_short.ensures
+
+pub returns-in_err-bytes-clause-reads : goal.returns-in_err-bytes-clause-reads
+returns-in_err-bytes-clause-reads g c =
+    reads_weaker g.E.Env _ (λ status damaged. (damaged.0, λ bytes has meta index ends. omega (arith, damaged.1 bytes has, length-drop c.in-Some.offset bytes, ends.within, c.in-Some.ensures.0, c.in-Some.ensures.1)))
+    (reads_refused g.E.Env c.from_residual.result c.from_residual.ensures.1 c.in_err-bytes.ensures.reads)
+
+pub returns-in_err-bytes-clause-ok : goal.returns-in_err-bytes-clause-ok
+returns-in_err-bytes-clause-ok g c = IfOk-from_err _ _ c.from_residual.ensures.0
+
+pub returns-in-Some-decode-clause-reads : goal.returns-in-Some-decode-clause-reads
+returns-in-Some-decode-clause-reads g c =
+    let read = c.in_ok-bytes.ensures.reads in
+    reads_ok g.E.Env read.kept_disk read.cause.ok
+
+pub returns-clause-ok : goal.returns-clause-ok
+returns-clause-ok g c = IfOk-refused _ _ c.corruption.result c.corruption.ensures

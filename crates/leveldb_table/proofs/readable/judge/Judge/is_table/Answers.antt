@@ -1,4 +1,4 @@
-use Rattle.std.proofs.Common.{None, ap, length, refl, subst, ◌≡◌, ◌∙◌}
+use Rattle.std.proofs.Common.{None, ap, length, refl, subst, ◌≡◌, ◌∙◌, inl}
 use Rattle.std.specs.Prelude.{IfSome, MatchOption}
 use Rattle.leveldb_base.specs.BlockHandle.{Handle}
 use Rattle.leveldb_base.specs.Cmp.{bytewise}
@@ -10,7 +10,8 @@ use Rattle.leveldb_table.specs.Table.{HasBlockAt}
 use Rattle.leveldb_table.specs.TableReader.{EndsInFooter}
 use Rattle.leveldb_table.proofs.ReadableJudgeLemmas.{block_fails, lines_fail, no_test, none_if, some_if, table_judged}
 use Rattle.leveldb_table.proofs.ReadableTableLemmas.{no_footer_no_table, no_index_no_table, no_meta_no_table}
-use Rattle.leveldb_table.proofs.TableBlockLemmas.{FileHas-after, KeepsDisk-trans, reads_refused}
+use Rattle.leveldb_table.proofs.TableBlockLemmas.{FileHas-after, KeepsDisk-trans, reads_refused, reads_ok, reads_weaker}
+use Rattle.std.proofs.lemmas.Result.{IfOk-from_err}
 use Rattle.leveldb_table.proofs.readable.judge.Judge.is_table.Goals as goal
 
 pub returns-in_default-clause-ok : goal.returns-in_default-clause-ok
@@ -185,3 +186,56 @@ returns-clause-ok g c =
           metas.1 third.encoded;
       pairs_are = refl;
     })
+
+pub returns-in_err-footer-clause-reads : goal.returns-in_err-footer-clause-reads
+returns-in_err-footer-clause-reads g c =
+    reads_weaker g.E.Env _ (λ status damaged. (inl damaged.0, λ bytes has same. absurd (damaged.1 bytes has same))) (reads_refused g.E.Env c.from_residual.result c.from_residual.ensures.1 c.in_err-footer.ensures.reads)
+
+pub returns-in_err-footer-clause-ok : goal.returns-in_err-footer-clause-ok
+returns-in_err-footer-clause-ok g c = IfOk-from_err _ _ c.from_residual.ensures.0
+
+pub returns-in_err-footer-clause-fits : goal.returns-in_err-footer-clause-fits
+returns-in_err-footer-clause-fits g c = c.footer.ensures.fits
+
+pub returns-in_default-clause-reads : goal.returns-in_default-clause-reads
+returns-in_default-clause-reads g c =
+    let first = c.in_ok-footer.ensures.reads in
+    reads_ok g.E.Env first.kept_disk first.cause.ok
+
+pub returns-in_default-clause-fits : goal.returns-in_default-clause-fits
+returns-in_default-clause-fits g c = c.footer.ensures.fits
+
+pub returns-in_err-index-clause-ok : goal.returns-in_err-index-clause-ok
+returns-in_err-index-clause-ok g c = IfOk-from_err _ _ c.from_residual-in_err-index.ensures.0
+
+pub returns-in_err-index-clause-fits : goal.returns-in_err-index-clause-fits
+returns-in_err-index-clause-fits g c = c.footer.ensures.fits
+
+pub returns-in_default-2-clause-reads : goal.returns-in_default-2-clause-reads
+returns-in_default-2-clause-reads g c =
+    let first = c.in_ok-footer.ensures.reads in
+    let second = c.in_ok-index.ensures.reads in
+    reads_ok g.E.Env (KeepsDisk-trans g.E.Env first.kept_disk second.kept_disk) (second.cause.ok ∙ first.cause.ok)
+
+pub returns-in_default-2-clause-fits : goal.returns-in_default-2-clause-fits
+returns-in_default-2-clause-fits g c = c.footer.ensures.fits
+
+pub returns-in_err-block-clause-ok : goal.returns-in_err-block-clause-ok
+returns-in_err-block-clause-ok g c = IfOk-from_err _ _ c.from_residual-in_err-block.ensures.0
+
+pub returns-in_err-block-clause-fits : goal.returns-in_err-block-clause-fits
+returns-in_err-block-clause-fits g c = c.footer.ensures.fits
+
+pub returns-then-is_none-clause-reads : goal.returns-then-is_none-clause-reads
+returns-then-is_none-clause-reads g c =
+    let first = c.in_ok-footer.ensures.reads in
+    let second = c.in_ok-index.ensures.reads in
+    let third = c.in_ok-block.ensures.reads in
+    let kept = KeepsDisk-trans g.E.Env first.kept_disk second.kept_disk in
+    reads_ok g.E.Env (KeepsDisk-trans g.E.Env kept third.kept_disk) (third.cause.ok ∙ second.cause.ok ∙ first.cause.ok)
+
+pub returns-then-is_none-clause-fits : goal.returns-then-is_none-clause-fits
+returns-then-is_none-clause-fits g c = c.footer.ensures.fits
+
+pub returns-clause-fits : goal.returns-clause-fits
+returns-clause-fits g c = c.footer.ensures.fits

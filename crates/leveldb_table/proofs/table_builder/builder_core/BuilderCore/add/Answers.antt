@@ -1,13 +1,13 @@
-use Rattle.std.proofs.Common.{◌++◌, ◌∷◌, [], ◌+◌, ◌∙◌, sym, ap, subst, refl, None, inl, inr, rules}
+use Rattle.std.proofs.Common.{◌++◌, ◌∷◌, [], ◌+◌, ◌∙◌, sym, ap, subst, refl, None, inl, inr, rules, arith}
 use Rattle.leveldb_env.proofs.FilterBlockLemmas.{keeps_keys}
 use Rattle.leveldb_table.specs.Block.{pairs_of}
 use Rattle.leveldb_table.specs.TableBuilder.{TableBuilt, stage}
 use Rattle.leveldb_table.specs.PutBlock.{IsTooLong}
 use Rattle.leveldb_table.proofs.TableLemmas.{last_pushed}
 use Rattle.leveldb_table.proofs.TableBuilderAddLemmas.{taken_after, takes_no_pair, broken_clash}
-use Rattle.std.proofs.lemmas.Result.{err_from_is_err_and}
 use Rattle.leveldb_table.specs.TableBuilderStage.{with_pair}
 use Rattle.leveldb_table.proofs.TableBuilderStageLemmas.{laid_added, after_all, open_rises, sound_added}
+use Rattle.leveldb_table.proofs.RefusalLemmas.{IfErr-passed, OnOk-refused}
 use Rattle.leveldb_table.proofs.table_builder.builder_core.BuilderCore.add.Goals as goal
 
 pub make_room-requires-clause-sound : goal.make_room-requires-clause-sound
@@ -44,9 +44,8 @@ invariant_of-self-inside-2 g c =
 
 pub returns-in_err-check_unbroken-clause-err : goal.returns-in_err-check_unbroken-clause-err
 returns-in_err-check_unbroken-clause-err g c =
-    let p = err_from_is_err_and c.from_residual.result c.from_residual.ensures.1 in
     let broken = c.in_err-check_unbroken.ensures.err in
-    rw (p.1, p.2) (record {
+    IfErr-passed _ c.from_residual.result c.from_residual.ensures.1 (record {
       refused = broken.0;
       still = refl;
       cause = inl (broken.0, broken.1, refl);
@@ -60,20 +59,18 @@ returns-in_err-make_room-clause-err g c =
     let it = c.self.inside in
     let core : TableBuilt g.row.C.Denot g.row.FP.Denot = record { block = it.block; index = it.index; filter = it.filter; offset = it.offset; count = it.count; broken = it.broken; compressor = it.compressor; block_size = it.block_size } in
     let unbroken = rw (← c.self.view_is) at c.in_ok-check_unbroken.ensures.ok in
-    let p = err_from_is_err_and c.from_residual-in_err-make_room.result c.from_residual-in_err-make_room.ensures.1 in
-    rw (← c.self.view_is, p.1, p.2) (takes_no_pair unbroken c.make_room.ensures.still.1 c.make_room.ensures.still.0
+    rw (← c.self.view_is) (IfErr-passed _ c.from_residual-in_err-make_room.result c.from_residual-in_err-make_room.ensures.1 (takes_no_pair unbroken c.make_room.ensures.still.1 c.make_room.ensures.still.0
     (inr (inl c.in_err-make_room.ensures.cause))
-    (λ full none. c.in_err-make_room.ensures.unset full none))
+    (λ full none. c.in_err-make_room.ensures.unset full none)))
 
 pub returns-in_err-add_key-clause-err : goal.returns-in_err-add_key-clause-err
 returns-in_err-add_key-clause-err g c =
     let it = c.self.inside in
     let core : TableBuilt g.row.C.Denot g.row.FP.Denot = record { block = it.block; index = it.index; filter = it.filter; offset = it.offset; count = it.count; broken = it.broken; compressor = it.compressor; block_size = it.block_size } in
     let unbroken = rw (← c.self.view_is) at c.in_ok-check_unbroken.ensures.ok in
-    let p = err_from_is_err_and c.from_residual-in_err-add_key.result c.from_residual-in_err-add_key.ensures.1 in
-    rw (← c.self.view_is, p.1, p.2) (takes_no_pair unbroken (ap (λ builder. builder.broken) c.self-2.view_is ∙ c.make_room.ensures.still.1) (ap (λ builder. builder.count) c.self-2.view_is ∙ c.make_room.ensures.still.0)
+    rw (← c.self.view_is) (IfErr-passed _ c.from_residual-in_err-add_key.result c.from_residual-in_err-add_key.ensures.1 (takes_no_pair unbroken (ap (λ builder. builder.broken) c.self-2.view_is ∙ c.make_room.ensures.still.1) (ap (λ builder. builder.count) c.self-2.view_is ∙ c.make_room.ensures.still.0)
     (taken_after g.C.Cmp g.FP.FilterPolicy _ core g.S.Sink.puts (c.args.key.now, c.args.value.now) c.make_room.new.self c.args.sink.now c.in_err-add_key.field-0.0 c.make_room.new.sink c.in_ok-make_room.ensures.room.0 (inl c.in_err-add_key.ensures.memory))
-    (λ full none. absurd (c.in_ok-make_room.ensures.unset full none).0))
+    (λ full none. absurd (c.in_ok-make_room.ensures.unset full none).0)))
 
 pub returns-in_err-add-clause-err : goal.returns-in_err-add-clause-err
 returns-in_err-add-clause-err g c =
@@ -81,20 +78,18 @@ returns-in_err-add-clause-err g c =
     let it = c.self.inside in
     let core : TableBuilt g.row.C.Denot g.row.FP.Denot = record { block = it.block; index = it.index; filter = it.filter; offset = it.offset; count = it.count; broken = it.broken; compressor = it.compressor; block_size = it.block_size } in
     let unbroken = rw (← c.self.view_is) at c.in_ok-check_unbroken.ensures.ok in
-    let p = err_from_is_err_and c.from_residual-in_err-add.result c.from_residual-in_err-add.ensures.1 in
-    rw (← c.self.view_is, p.1, p.2) (takes_no_pair unbroken (ap (λ builder. builder.broken) c.self-2.view_is ∙ c.make_room.ensures.still.1) (ap (λ builder. builder.count) c.self-2.view_is ∙ c.make_room.ensures.still.0)
+    rw (← c.self.view_is) (IfErr-passed _ c.from_residual-in_err-add.result c.from_residual-in_err-add.ensures.1 (takes_no_pair unbroken (ap (λ builder. builder.broken) c.self-2.view_is ∙ c.make_room.ensures.still.1) (ap (λ builder. builder.count) c.self-2.view_is ∙ c.make_room.ensures.still.0)
     (taken_after g.C.Cmp g.FP.FilterPolicy _ core g.S.Sink.puts (c.args.key.now, c.args.value.now) c.make_room.new.self c.args.sink.now c.in_err-add.field-0.0 c.make_room.new.sink c.in_ok-make_room.ensures.room.0 (elim c.in_err-add.ensures.cause [ inl code ↦ inr (inr (code, large code)) | inr memory ↦ inl memory ]))
-    (λ full none. absurd (c.in_ok-make_room.ensures.unset full none).0))
+    (λ full none. absurd (c.in_ok-make_room.ensures.unset full none).0)))
 
 pub returns-in_err-self-inside-clause-err : goal.returns-in_err-self-inside-clause-err
 returns-in_err-self-inside-clause-err g c =
     let it = c.self.inside in
     let core : TableBuilt g.row.C.Denot g.row.FP.Denot = record { block = it.block; index = it.index; filter = it.filter; offset = it.offset; count = it.count; broken = it.broken; compressor = it.compressor; block_size = it.block_size } in
     let unbroken = rw (← c.self.view_is) at c.in_ok-check_unbroken.ensures.ok in
-    let p = err_from_is_err_and c.from_residual-in_err-self-inside.result c.from_residual-in_err-self-inside.ensures.1 in
-    rw (← c.self.view_is, p.1, p.2) (takes_no_pair unbroken (ap (λ builder. builder.broken) c.self-2.view_is ∙ c.make_room.ensures.still.1) (ap (λ builder. builder.count) c.self-2.view_is ∙ c.make_room.ensures.still.0)
+    rw (← c.self.view_is) (IfErr-passed _ c.from_residual-in_err-self-inside.result c.from_residual-in_err-self-inside.ensures.1 (takes_no_pair unbroken (ap (λ builder. builder.broken) c.self-2.view_is ∙ c.make_room.ensures.still.1) (ap (λ builder. builder.count) c.self-2.view_is ∙ c.make_room.ensures.still.0)
     (taken_after g.C.Cmp g.FP.FilterPolicy _ core g.S.Sink.puts (c.args.key.now, c.args.value.now) c.make_room.new.self c.args.sink.now c.in_err-self-inside.field-0.0 c.make_room.new.sink c.in_ok-make_room.ensures.room.0 (inr (inl (subst (λ n. IsTooLong (n + 1) c.in_err-self-inside.field-0.0) (ap (λ builder. builder.count) c.self-2.view_is ∙ c.make_room.ensures.still.0) c.in_err-self-inside.ensures.cause))))
-    (λ full none. absurd (c.in_ok-make_room.ensures.unset full none).0))
+    (λ full none. absurd (c.in_ok-make_room.ensures.unset full none).0)))
 
 pub returns-clause-ok : goal.returns-clause-ok
 returns-clause-ok g c =
@@ -146,6 +141,27 @@ returns-clause-ok g c =
           ];
       last = rw (c.in_ok-add.ensures.ok.0.pairs) (last_pushed (pairs_of None mid.block.entries) (c.args.key.now, c.args.value.now));
       count = search rules;
-      counted = search rules;
-      unbroken = search rules;
+      counted = omega arith;
+      unbroken = (unbroken, refl);
     })
+
+pub returns-in_err-check_unbroken-clause-ok : goal.returns-in_err-check_unbroken-clause-ok
+returns-in_err-check_unbroken-clause-ok g c = OnOk-refused _ _ c.from_residual.result c.from_residual.ensures.1
+
+pub returns-in_err-make_room-clause-ok : goal.returns-in_err-make_room-clause-ok
+returns-in_err-make_room-clause-ok g c = OnOk-refused _ _ c.from_residual-in_err-make_room.result c.from_residual-in_err-make_room.ensures.1
+
+pub returns-in_err-add_key-clause-ok : goal.returns-in_err-add_key-clause-ok
+returns-in_err-add_key-clause-ok g c = OnOk-refused _ _ c.from_residual-in_err-add_key.result c.from_residual-in_err-add_key.ensures.1
+
+pub returns-in_err-add-clause-ok : goal.returns-in_err-add-clause-ok
+returns-in_err-add-clause-ok g c = OnOk-refused _ _ c.from_residual-in_err-add.result c.from_residual-in_err-add.ensures.1
+
+pub returns-in_err-self-inside-clause-ok : goal.returns-in_err-self-inside-clause-ok
+returns-in_err-self-inside-clause-ok g c = OnOk-refused _ _ c.from_residual-in_err-self-inside.result c.from_residual-in_err-self-inside.ensures.1
+
+pub returns-in_err-check_unbroken-clause-choices : goal.returns-in_err-check_unbroken-clause-choices
+returns-in_err-check_unbroken-clause-choices g c = record { same_order = refl; same_policy = refl; same_compressor = refl; same_size = refl; same_intervals = (refl, refl) }
+
+pub returns-clause-err : goal.returns-clause-err
+returns-clause-err g c = tt

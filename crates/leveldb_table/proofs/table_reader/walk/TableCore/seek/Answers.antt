@@ -8,6 +8,9 @@ use Rattle.leveldb_table.specs.BlockWalk.{pairs_over, position_over}
 use Rattle.leveldb_table.specs.TableReaderWalk.{inner_position}
 use Rattle.leveldb_table.proofs.TableReaderWalkLemmas.{block_lines, line_lacks, moves_enters, seek_none}
 use Rattle.leveldb_table.proofs.TableReaderMovesLemmas.{names_none, none_at, index_line, enters_ends, enters_own, seeks_none, seeks_lacking, line_by, sought_along}
+use Rattle.leveldb_table.proofs.BlockCacheLemmas.{GainsBlocks-refl}
+use Rattle.leveldb_table.proofs.TableBlockLemmas.{KeepsDisk-refl}
+use Rattle.leveldb_table.proofs.TableReadsLemmas.{enters_memory}
 use Rattle.leveldb_table.proofs.table_reader.walk.TableCore.seek.Goals as goal
 
 pub returns-in_default : goal.returns-in_default
@@ -55,4 +58,15 @@ returns g c =
       moves = moves_enters {Way = IsKeyPosition (g.C.Cmp.accepts c.args.reader.now.table.now.cmp) (g.C.Cmp.cmp c.args.reader.now.table.now.cmp) c.args.key.now} {to = λ pairs _. seek_position (g.C.Cmp.cmp c.args.reader.now.table.now.cmp) pairs c.args.key.now} old (block_lines c.seek.new.self old.index block) (ap (λ z. z.cmp) block)
           (λ parts position fit is_there. (fit, refl)) (λ bytes out. sought_along g.C.Cmp ((TheImpl.ghosts g.dyn-1).codings c.args.reader.now.compressors.now) (g.C.Cmp.cmp c.args.reader.now.table.now.cmp) bytes c.args.key.now old (record old { index = c.seek.new.self; inner = c.leave.new.inner }) out (block_lines c.seek.new.self old.index block) (ap (λ z. z.cmp) block)) c.enter.ensures.enters;
       same = c.enter.ensures.same;
+    }
+
+pub returns-in_err-seek : goal.returns-in_err-seek
+returns-in_err-seek g c =
+    let block = c.in_err-seek.ensures.block ∙ ap (λ z. z.index.block) c.self.view_is in
+    let old = c.args.self.now in
+    let key = c.args.key.now in
+    record {
+      moves = moves_enters {Way = IsKeyPosition (g.C.Cmp.accepts c.args.reader.now.table.now.cmp) (g.C.Cmp.cmp c.args.reader.now.table.now.cmp) key} {to = λ pairs _. seek_position (g.C.Cmp.cmp c.args.reader.now.table.now.cmp) pairs key} {Part_step = ToKey g.C.Cmp key} old refl refl (λ parts position fit is_there. (fit, refl)) (λ bytes out sought. sought)
+          (enters_memory old _ c.from_residual.result c.from_residual.ensures.1 c.in_err-seek.ensures.cause (KeepsDisk-refl g.E.Env c.args.reader.now.env.now) refl (GainsBlocks-refl c.args.reader.now.table.now.id _ c.args.reader.now.cache.now) (block_lines c.seek.new.self old.index block) (ap (λ z. z.cmp) block) (ap inner_position c.leave.ensures));
+      same = record { table = refl; compressors = refl; env = refl; cache = refl };
     }

@@ -11,6 +11,9 @@ use Rattle.leveldb_table.proofs.BlockCacheLemmas.{GainsBlocks-refl}
 use Rattle.leveldb_table.proofs.TableBlockLemmas.{KeepsDisk-refl}
 use Rattle.leveldb_table.proofs.TableReaderWalkLemmas.{block_lines, line_lacks}
 use Rattle.leveldb_table.proofs.TableReaderMovesLemmas.{names_one, names_none, none_at, index_line, let_none, let_by, enters_then, enters_ends, enters_own, enters_ok, enters_refused, looks_none, looks_unnamed, looks_refused, line_by, looked_up}
+use Rattle.std.specs.Prelude.{is_some}
+use Rattle.leveldb_table.proofs.RefusalLemmas.{IfOk-refused}
+use Rattle.leveldb_table.proofs.TableReadsLemmas.{enters_memory}
 use Rattle.leveldb_table.proofs.table_reader.walk.TableCore.seek_filtered.Goals as goal
 
 pub returns-in_default-clause-enters : goal.returns-in_default-clause-enters
@@ -88,3 +91,45 @@ returns-clause-enters g c =
           (index_line g.C.Cmp parts old.index key (position_over c.seek.new.self) indexed.lines indexed.ordered ok) (sym c.current.ensures ∙ ap pair_of c.in-Some.is) c.in_ok-handle.ensures.ok.1 passes,
     ))
     (λ bytes has holds out. looked_up g.C.Cmp ((TheImpl.ghosts g.dyn-1).codings c.args.reader.now.compressors.now) (g.C.Cmp.cmp c.args.reader.now.table.now.cmp) bytes (may_contain g.FP.FilterPolicy.matches c.args.reader.now.table.now) key c.in_ok-handle.handle old (record old { index = c.seek.new.self; inner = c.leave.new.inner }) out lines (ap (λ z. z.cmp) block) c.in_ok-handle.ensures.ok.0 (names_one c.in_ok-handle.handle (line_by lines ok (sym c.current.ensures ∙ ap pair_of c.in-Some.is)) c.in_ok-handle.ensures.ok.1) passes) c.in_ok-enter.ensures.enters)
+
+pub returns-in_err-seek-clause-enters : goal.returns-in_err-seek-clause-enters
+returns-in_err-seek-clause-enters g c =
+    let block = c.in_err-seek.ensures.block ∙ ap (λ z. z.index.block) c.self.view_is in
+    let old = c.args.self.now in
+    enters_memory old _ c.from_residual.result c.from_residual.ensures.1 c.in_err-seek.ensures.cause (KeepsDisk-refl g.E.Env c.args.reader.now.env.now) refl (GainsBlocks-refl c.args.reader.now.table.now.id _ c.args.reader.now.cache.now) (block_lines c.seek.new.self old.index block) (ap (λ z. z.cmp) block) (ap inner_position c.leave.ensures)
+
+pub returns-in_err-seek-clause-same : goal.returns-in_err-seek-clause-same
+returns-in_err-seek-clause-same g c = record { table = refl; compressors = refl; env = refl; cache = refl }
+
+pub returns-in_default-clause-same : goal.returns-in_default-clause-same
+returns-in_default-clause-same g c = record { table = refl; compressors = refl; env = refl; cache = refl }
+
+pub returns-in_err-handle-clause-same : goal.returns-in_err-handle-clause-same
+returns-in_err-handle-clause-same g c = record { table = refl; compressors = refl; env = refl; cache = refl }
+
+pub returns-then-not-may_contain-clause-same : goal.returns-then-not-may_contain-clause-same
+returns-then-not-may_contain-clause-same g c = record { table = refl; compressors = refl; env = refl; cache = refl }
+
+pub returns-in_err-enter-clause-same : goal.returns-in_err-enter-clause-same
+returns-in_err-enter-clause-same g c = c.in_err-enter.ensures.same
+
+pub returns-clause-same : goal.returns-clause-same
+returns-clause-same g c = c.in_ok-enter.ensures.same
+
+pub returns-in_err-seek-clause-there : goal.returns-in_err-seek-clause-there
+returns-in_err-seek-clause-there g c = IfOk-refused _ _ c.from_residual.result c.from_residual.ensures.1
+
+pub returns-in_default-clause-there : goal.returns-in_default-clause-there
+returns-in_default-clause-there g c = ap (λ inner. is_some (inner_position inner)) (sym c.leave.ensures)
+
+pub returns-in_err-handle-clause-there : goal.returns-in_err-handle-clause-there
+returns-in_err-handle-clause-there g c = IfOk-refused _ _ c.from_residual-in_err-handle.result c.from_residual-in_err-handle.ensures.1
+
+pub returns-then-not-may_contain-clause-there : goal.returns-then-not-may_contain-clause-there
+returns-then-not-may_contain-clause-there g c = ap (λ inner. is_some (inner_position inner)) (sym c.leave.ensures)
+
+pub returns-in_err-enter-clause-there : goal.returns-in_err-enter-clause-there
+returns-in_err-enter-clause-there g c = IfOk-refused _ _ c.from_residual-in_err-enter.result c.from_residual-in_err-enter.ensures.1
+
+pub returns-clause-there : goal.returns-clause-there
+returns-clause-there g c = c.valid.ensures

@@ -1,13 +1,18 @@
-use Rattle.std.proofs.Common.{◌≡◌, List, ℕ, None, sym, ◌∙◌, ap, inl, inr}
+use Rattle.std.proofs.Common.{◌≡◌, false, List, ℕ, None, sym, ◌∙◌, ap, refl, inl, inr}
 use Rattle.leveldb_base.specs.Types.{previous_position, last_position}
 use Rattle.leveldb_env.specs.contracts.compressor.CompressorListCompressors.TheImpl
 use Rattle.leveldb_table.specs.BlockCache.{HoldsOnlyOf}
 use Rattle.leveldb_table.specs.TableBlock.{FileHas}
 use Rattle.leveldb_table.specs.BlockWalk.{pairs_over, position_over}
 use Rattle.leveldb_table.specs.TableReaderWalk.{inner_position, inner_pairs}
-use Rattle.leveldb_table.proofs.TableBlockLemmas.{reads_weaker, reads_refused, reads_own, reads_ok}
-use Rattle.leveldb_table.proofs.TableReaderWalkLemmas.{ok_refused, err_holds, none_there, block_lines, line_lacks, some_none, IsInto, is_into}
-use Rattle.leveldb_table.proofs.TableReaderMovesLemmas.{last_none, previous_is_there, into_lacking, into_at, into_empty}
+use Rattle.leveldb_table.proofs.TableBlockLemmas.{KeepsDisk-refl, reads_weaker, reads_refused, reads_own, reads_ok}
+use Rattle.leveldb_table.proofs.TableReaderWalkLemmas.{ok_refused, err_holds, none_there, block_lines, line_lacks, some_none, no_block_before, IsInto, is_into}
+use Rattle.leveldb_table.proofs.TableReaderMovesLemmas.{enters_ends, to_no_block, last_none, previous_is_there, into_lacking, into_at, into_empty}
+use Rattle.std.specs.Prelude.{is_some}
+use Rattle.leveldb_table.proofs.BlockCacheLemmas.{GainsBlocks-refl}
+use Rattle.leveldb_table.proofs.RefusalLemmas.{IfOk-refused}
+use Rattle.leveldb_table.proofs.TableReadsLemmas.{enters_memory}
+use Rattle.leveldb_table.specs.TableReaderBlocks.{IsBeforeBlock}
 use Rattle.leveldb_table.proofs.table_reader.walk.TableCore.to_block_before.Goals as goal
 
 pub returns-in_err-load_line-clause-enters : goal.returns-in_err-load_line-clause-enters
@@ -98,3 +103,67 @@ returns-clause-enters g c =
       same_lines = ap pairs_over index ∙ block_lines c.prev.new.self c.args.self.now.index block;
       same_order = ap (λ z. z.block.cmp) index ∙ ap (λ z. z.cmp) block;
     }
+
+pub returns-in_err-prev-clause-enters : goal.returns-in_err-prev-clause-enters
+returns-in_err-prev-clause-enters g c =
+    let block = c.in_err-prev.ensures.block ∙ ap (λ z. z.index.block) c.self.view_is in
+    let result = c.from_residual.result in
+    let old = c.args.self.now in
+    enters_memory old _ result c.from_residual.ensures.1 c.in_err-prev.ensures.cause (KeepsDisk-refl g.E.Env c.args.reader.now.env.now) refl (GainsBlocks-refl c.args.reader.now.table.now.id _ c.args.reader.now.cache.now)
+    (block_lines c.prev.new.self old.index block) (ap (λ z. z.cmp) block) (ap inner_position c.leave.ensures)
+
+pub returns-in_err-to_last-clause-enters : goal.returns-in_err-to_last-clause-enters
+returns-in_err-to_last-clause-enters g c =
+    let block = c.in_ok-prev.ensures.block ∙ ap (λ z. z.index.block) c.self.view_is in
+    let read = c.in_ok-load_line.ensures in
+    let step = c.in_err-to_last.ensures in
+    let index = step.index ∙ read.index in
+    let old = c.args.self.now in
+    enters_memory old c.to_last.new.self c.from_residual-in_err-to_last.result c.from_residual-in_err-to_last.ensures.1 step.memory read.reads.kept_disk read.reads.cause.ok read.gathers
+    (ap pairs_over index ∙ block_lines c.prev.new.self old.index block) (ap (λ z. z.block.cmp) index ∙ ap (λ z. z.cmp) block) step.err
+
+pub returns-in_err-prev-clause-same : goal.returns-in_err-prev-clause-same
+returns-in_err-prev-clause-same g c = record { table = refl; compressors = refl; env = refl; cache = refl }
+
+pub returns-then-not-branch-clause-same : goal.returns-then-not-branch-clause-same
+returns-then-not-branch-clause-same g c = record { table = refl; compressors = refl; env = refl; cache = refl }
+
+pub returns-in_err-load_line-clause-same : goal.returns-in_err-load_line-clause-same
+returns-in_err-load_line-clause-same g c = c.in_err-load_line.ensures.same
+
+pub returns-in_err-to_last-clause-same : goal.returns-in_err-to_last-clause-same
+returns-in_err-to_last-clause-same g c = c.in_ok-load_line.ensures.same
+
+pub returns-then-not-branch-2-clause-same : goal.returns-then-not-branch-2-clause-same
+returns-then-not-branch-2-clause-same g c = c.in_ok-load_line.ensures.same
+
+pub returns-clause-same : goal.returns-clause-same
+returns-clause-same g c = c.in_ok-load_line.ensures.same
+
+pub returns-in_err-prev-clause-there : goal.returns-in_err-prev-clause-there
+returns-in_err-prev-clause-there g c = IfOk-refused _ _ c.from_residual.result c.from_residual.ensures.1
+
+pub returns-then-not-branch-clause-there : goal.returns-then-not-branch-clause-there
+returns-then-not-branch-clause-there g c = ap (λ inner. is_some (inner_position inner)) (sym c.leave.ensures)
+
+pub returns-in_err-load_line-clause-there : goal.returns-in_err-load_line-clause-there
+returns-in_err-load_line-clause-there g c = IfOk-refused _ _ c.from_residual-in_err-load_line.result c.from_residual-in_err-load_line.ensures.1
+
+pub returns-in_err-to_last-clause-there : goal.returns-in_err-to_last-clause-there
+returns-in_err-to_last-clause-there g c = IfOk-refused _ _ c.from_residual-in_err-to_last.result c.from_residual-in_err-to_last.ensures.1
+
+pub returns-then-not-branch-2-clause-there : goal.returns-then-not-branch-2-clause-there
+returns-then-not-branch-2-clause-there g c = IfOk-refused _ _ c.empty_block_error.result c.empty_block_error.ensures
+
+pub returns-clause-there : goal.returns-clause-there
+returns-clause-there g c = sym c.if-not-branch-2.false ∙ c.in_ok-to_last.ensures.there
+
+pub returns-then-not-branch-clause-enters : goal.returns-then-not-branch-clause-enters
+returns-then-not-branch-clause-enters g c =
+    let block = c.in_ok-prev.ensures.block ∙ ap (λ z. z.index.block) c.self.view_is in
+    let ok = c.in_ok-prev.ensures.ok ∙ ap (λ z. previous_position (position_over z.index)) c.self.view_is in
+    let old = c.args.self.now in
+    let none = none_there (position_over c.prev.new.self) (sym c.in_ok-prev.ensures.there ∙ c.if-not-branch.true) in
+    enters_ends {Fit = λ parts position. IsBeforeBlock parts (position_over old.index) position} old _ false (block_lines c.prev.new.self old.index block) (ap (λ z. z.cmp) block) (ap inner_position c.leave.ensures)
+    (λ bytes parts position right fit indexed. fit.to ∙ no_block_before fit.is_there fit.first (sym ok ∙ none))
+    (λ bytes. to_no_block ((TheImpl.ghosts g.dyn-1).codings c.args.reader.now.compressors.now) (g.C.Cmp.cmp c.args.reader.now.table.now.cmp) bytes (pairs_over old.index) last_position (previous_position (position_over old.index)) _ (sym ok ∙ none) none (ap inner_position c.leave.ensures))

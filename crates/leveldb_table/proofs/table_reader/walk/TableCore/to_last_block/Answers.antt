@@ -9,6 +9,9 @@ use Rattle.leveldb_table.specs.TableReaderWalk.{IsAtPosition, inner_position, in
 use Rattle.leveldb_table.proofs.TableBlockLemmas.{reads_weaker, reads_refused, reads_own, reads_ok}
 use Rattle.leveldb_table.proofs.TableReaderWalkLemmas.{last_of_none, ok_refused, err_holds, none_there, block_lines, line_lacks, some_none, IsInto, is_into}
 use Rattle.leveldb_table.proofs.TableReaderMovesLemmas.{last_none, last_is_there, enters_ends, to_no_block, into_lacking, into_at, into_empty}
+use Rattle.leveldb_table.proofs.BlockCacheLemmas.{GainsBlocks-refl}
+use Rattle.leveldb_table.proofs.TableBlockLemmas.{KeepsDisk-refl}
+use Rattle.leveldb_table.proofs.TableReadsLemmas.{enters_memory}
 use Rattle.leveldb_table.proofs.table_reader.walk.TableCore.to_last_block.Goals as goal
 
 pub returns-in_err-load_line : goal.returns-in_err-load_line
@@ -120,4 +123,26 @@ returns-then-not-valid g c =
           (λ bytes parts position right fit indexed. fit ∙ last_of_none parts (ap last_position (sym indexed.lines) ∙ sym ok ∙ none))
           (λ bytes. to_no_block ((TheImpl.ghosts g.dyn-1).codings c.args.reader.now.compressors.now) (g.C.Cmp.cmp c.args.reader.now.table.now.cmp) bytes (pairs_over old.index) last_position (last_position (pairs_over old.index)) _ (sym ok ∙ none) none (ap inner_position c.leave.ensures));
       same = record { table = refl; compressors = refl; env = refl; cache = refl };
+    }
+
+pub returns-in_err-seek_to_last : goal.returns-in_err-seek_to_last
+returns-in_err-seek_to_last g c =
+    let block = c.in_err-seek_to_last.ensures.block ∙ ap (λ z. z.index.block) c.self.view_is in
+    let old = c.args.self.now in
+    record {
+      enters = enters_memory old _ c.from_residual.result c.from_residual.ensures.1 c.in_err-seek_to_last.ensures.cause (KeepsDisk-refl g.E.Env c.args.reader.now.env.now) refl (GainsBlocks-refl c.args.reader.now.table.now.id _ c.args.reader.now.cache.now) (block_lines c.seek_to_last.new.self old.index block) (ap (λ z. z.cmp) block) (ap inner_position c.leave.ensures);
+      same = record { table = refl; compressors = refl; env = refl; cache = refl };
+    }
+
+pub returns-in_err-to_last : goal.returns-in_err-to_last
+returns-in_err-to_last g c =
+    let block = c.in_ok-seek_to_last.ensures.block ∙ ap (λ z. z.index.block) c.self.view_is in
+    let read = c.in_ok-load_line.ensures in
+    let step = c.in_err-to_last.ensures in
+    let index = step.index ∙ read.index in
+    let old = c.args.self.now in
+    record {
+      enters = enters_memory old c.to_last.new.self c.from_residual-in_err-to_last.result c.from_residual-in_err-to_last.ensures.1 step.memory read.reads.kept_disk read.reads.cause.ok read.gathers
+          (ap pairs_over index ∙ block_lines c.seek_to_last.new.self old.index block) (ap (λ z. z.block.cmp) index ∙ ap (λ z. z.cmp) block) step.err;
+      same = read.same;
     }

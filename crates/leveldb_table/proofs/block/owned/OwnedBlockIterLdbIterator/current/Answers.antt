@@ -1,0 +1,7 @@
+use Rattle.leveldb_table.specs.BlockLaws.{IsWithin-number}
+use Rattle.leveldb_table.proofs.block.owned.OwnedBlockIterLdbIterator.current.Goals as goal
+
+pub returns : goal.returns
+returns g c =
+    let self = c.self.inside in
+    rw (← c.self.view_is, IsWithin-number self.block.contents self.block.entries self.core.key self.core.spot self.within) c.current.ensures
