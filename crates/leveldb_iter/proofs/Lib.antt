@@ -6,6 +6,7 @@ mod MergedEntriesLemmas
 pub mod LayersMergedLemmas
 mod ChildrenLemmas
 pub mod MovesLemmas
+mod InMemoryLemmas
 mod ChoiceLemmas
 mod MergingIterLemmas
 mod SnapshotLemmas
