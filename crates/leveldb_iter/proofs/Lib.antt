@@ -7,6 +7,7 @@ pub mod LayersMergedLemmas
 mod ChildrenLemmas
 pub mod MovesLemmas
 mod InMemoryLemmas
+mod WalkIterLemmas
 mod ChoiceLemmas
 mod MergingIterLemmas
 mod SnapshotLemmas
