@@ -2,6 +2,8 @@
 use Rattle.std.proofs.Common.{◌≡◌, ◌≢◌, ◌⊎◌, inl, inr, ⊎_elim, ℕ, zero, suc, ◌+◌, ◌<◌, ◌≤◌, Bool, true, false, List, [], ◌∷◌, length, get_or, refl, sym, ◌∙◌, ap, subst, arith, Option, Some, None, Result, Ok, Err}
 use Rattle.std.specs.Prelude.{slice_get, option_and_then, if◌then◌else◌, OnOk, IfErr, Any, is_some}
 use Rattle.std.proofs.lemmas.Bool.{cases_order, cases_lt, false≢true}
+use Rattle.std.proofs.Math.ListN.{set}
+use Rattle.std.proofs.lemmas.List.{length-set, get_or-set_same}
 use Rattle.std.proofs.lemmas.Option.{slice_get-get_or, slice_get_within, get_or_from_slice_get}
 use Rattle.leveldb_base.specs.Types.{Pair, IsPosition, pair_at}
 use Rattle.leveldb_base.specs.declared.error.Status.{Status}
@@ -36,6 +38,28 @@ same_or i k same other = ⊎_elim
 pub no_position : (pairs : List Pair) (position : Option ℕ) → IsPosition pairs position → is_some (pair_at pairs position) ≡ false → position ≡ None
 no_position pairs None h e = refl
 no_position pairs (Some i) h e = absurd (false≢true (sym e ∙ ap is_some (at_some pairs (Some i) i refl h)))
+
+slice_get-set_other : {X : Type 0} (xs : List X) (i k : ℕ) (x : X) → k ≢ i → slice_get (set xs i x) k ≡ slice_get xs k
+slice_get-set_other [] i k x other = refl
+slice_get-set_other (y ∷ ys) zero zero x other = absurd (other refl)
+slice_get-set_other (y ∷ ys) zero (suc k) x other = refl
+slice_get-set_other (y ∷ ys) (suc i) zero x other = refl
+slice_get-set_other (y ∷ ys) (suc i) (suc k) x other = slice_get-set_other ys i k x (λ e. other (ap suc e))
+
+-- the child of a number makes a step where it is
+pub one_steps : {E T I R : Type 0} (walk : WalkGhosts I E T) {From : E × T → I → KeyOrder → List Pair → Option ℕ → Type 0} {to : Way} {old_world : E × T} (old : List I) (i : ℕ) (it new_it : I)
+    {result : Result R Status} {new_world : E × T} → i < length old → it ≡ get_or old i it → MovesChild walk From to old_world it result new_world new_it
+    → StepsOne walk From to i old_world old result new_world (set old i new_it)
+one_steps walk {From} {to} {old_world} old i it new_it {result} {new_world} within own moves = record {
+  counted = length-set old i new_it;
+  step = λ child new_child was is.
+      let same : it ≡ child = own ∙ get_or_from_slice_get old i child it was in
+      let new_same : new_it ≡ new_child = sym (get_or-set_same old i new_it new_it within) ∙ get_or_from_slice_get (set old i new_it) i new_child new_it is in
+      subst (λ after. MovesChild walk From to old_world child result new_world after) new_same
+      (subst (λ before. MovesChild walk From to old_world before result new_world new_it) same moves);
+  rest = λ k other. slice_get-set_other old i k new_it other;
+  kept = moves.kept;
+}
 
 module _ {E T I : Type 0} (walk : WalkGhosts I E T) (laws : WalkLaws walk.over walk.is_at walk.here walk.fails walk.keeps) where
   -- from no position back to the last pair

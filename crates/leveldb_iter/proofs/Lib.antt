@@ -6,6 +6,8 @@ mod MergedEntriesLemmas
 pub mod LayersMergedLemmas
 mod ChildrenLemmas
 pub mod MovesLemmas
+mod InMemoryLemmas
+mod WalkIterLemmas
 mod ChoiceLemmas
 mod MergingIterLemmas
 mod SnapshotLemmas

@@ -627,3 +627,10 @@ module _ {E T I C : Type 0} (walk : WalkGhosts I E T) (laws : WalkLaws walk.over
             cause = tt;
             excuses = rests_there.excuses world;
           }
+
+-- the pair of the current child is the merge's
+pub current_here : {E T I : Type 0} (walk : WalkGhosts I E T) (children : List I) (current : Option ℕ) (i : ℕ) (child : I) → current ≡ Some i → i < length children → child ≡ get_or children i child
+    → walk.here child ≡ option_and_then (head_of walk children) current
+current_here walk children current i child is within own =
+    ap (option_and_then walk.here) (sym (slice_get-get_or children i child within ∙ ap (λ c. Some c) (sym own)))
+    ∙ ap (option_and_then (head_of walk children)) (sym is)

@@ -1,13 +1,16 @@
 -- Moves of a walk, and lists of them.
 use Rattle.std.specs.Prelude.{is_some}
-use Rattle.std.proofs.Common.{◌≡◌, ℕ, suc, length, List, [], ◌∷◌, ◌++◌, refl, sym, ◌∙◌, ap, subst, Option, None, Result, Ok, Err}
+use Rattle.std.specs.Global.{Global}
+use Rattle.std.proofs.Common.{◌≡◌, inl, inr, ℕ, suc, length, List, [], ◌∷◌, ◌++◌, refl, sym, ◌∙◌, ap, subst, Option, Some, None, Result, Ok, Err, Vec}
 use Rattle.leveldb_base.specs.Types.{Pair}
 use Rattle.leveldb_base.specs.declared.error.Status.{Status}
+use Rattle.leveldb_base.specs.declared.error.StatusCode.TheVariants.{InvalidArgument}
+use Rattle.leveldb_base.specs.Error.{IsOutOfMemory}
 use Rattle.leveldb_iter.specs.declared.moves.Move.{Move}
 use Rattle.leveldb_iter.specs.declared.moves.Step.{Step}
-use Rattle.leveldb_iter.specs.declared.moves.Step.TheVariants.{Invalid}
+use Rattle.leveldb_iter.specs.declared.moves.Step.TheVariants.{At, Invalid, Refused}
 use Rattle.leveldb_iter.specs.declared.walk.Walk.{Ghosts as WalkGhosts}
-use Rattle.leveldb_iter.specs.Walk.{KeyOrder, WalkLaws, MovesWalk}
+use Rattle.leveldb_iter.specs.Walk.{KeyOrder, WalkLaws, MovesWalk, Resets}
 use Rattle.leveldb_iter.specs.Moves.{AcceptsKeyOf, MovesTo, MovesAll, SeeksLongKey, position_moved}
 use Rattle.leveldb_iter.proofs.ChildrenLemmas.{no_position}
 
@@ -56,6 +59,56 @@ module _ {E T W : Type 0} (walk : WalkGhosts W E T) (laws : WalkLaws walk.over w
     kept = m.kept;
     cause = short;
     excuses = m.excuses;
+  }
+
+  -- a move after which the walk is at a pair led to it
+  pub led_to_pair : (one : Move) {old_world : E × T} {old : W} {u : Unit {0}} {new_world : E × T} {new : W} {key value : Vec ℕ Global}
+      → (SeeksLongKey one → ⊥) → walk.here new ≡ Some (key.items, value.items) → Led one old_world old (Ok u) new_world new
+      → MovesTo walk one old_world old (At key value) new_world new
+  led_to_pair one {new_world = new_world} {new = new} short here m = record {
+    lands = λ order pairs position at accepts.
+        let now = m.ok order pairs position (at, accepts) in
+        let next = position_moved one order pairs position in
+        (next, now, (refl, sym (laws.at_position new_world new order pairs next now) ∙ here));
+    same = m.same;
+    kept = m.kept;
+    cause = short;
+    excuses = m.excuses;
+  }
+
+  -- a move that fails is refused
+  pub refuses_move : (one : Move) {old_world : E × T} {old : W} {status : Status} {new_world : E × T} {new : W} → Led one old_world old (Err status) new_world new
+      → MovesTo walk one old_world old (Refused status) new_world new
+  refuses_move one {old_world} {old} m = record {
+    lands = λ order pairs position at accepts. (None, m.err order pairs (laws.over_list old_world old order pairs position at), refl);
+    same = m.same;
+    kept = m.kept;
+    cause = inl m.cause;
+    excuses = m.excuses;
+  }
+
+  -- a key that is too long is refused, and the walk reset
+  pub refuses_key : (one : Move) (world : E × T) {old new : W} {status : Status} → (status.code ≡ InvalidArgument) × SeeksLongKey one
+      → Resets walk.over walk.is_at walk.here walk.fails walk.keeps old new → MovesTo walk one world old (Refused status) world new
+  refuses_key one world {old} {new} long reset = record {
+    lands = λ order pairs position at accepts. (None, reset.at_none world order pairs (laws.over_list world old order pairs position at), refl);
+    same = λ order pairs over. laws.over_list world new order pairs None (reset.at_none world order pairs over);
+    kept = laws.keeps_itself world;
+    cause = inr (inr long);
+    excuses = reset.excuses world;
+  }
+
+  -- without memory for a copy of the pair the move is refused, and the walk reset
+  pub refuses_copy : (one : Move) {old_world : E × T} {old : W} {result : Result (Unit {0}) Status} {new_world : E × T} {mid new : W} {status : Status} → IsOutOfMemory status
+      → Led one old_world old result new_world mid → Resets walk.over walk.is_at walk.here walk.fails walk.keeps mid new
+      → MovesTo walk one old_world old (Refused status) new_world new
+  refuses_copy one {old_world} {old} {result} {new_world} {mid} {new} memory m reset = record {
+    lands = λ order pairs position at accepts.
+        (None, reset.at_none new_world order pairs (m.same order pairs (laws.over_list old_world old order pairs position at)), refl);
+    same = λ order pairs over. laws.over_list new_world new order pairs None (reset.at_none new_world order pairs (m.same order pairs over));
+    kept = m.kept;
+    cause = inr (inl memory);
+    excuses = λ later status fails. m.excuses later status (reset.excuses new_world later status fails);
   }
 
 -- one more move

@@ -1,5 +1,5 @@
 -- A reader of a log: what a source gives, and the records of a log one after another.
-use Rattle.std.proofs.Common.{Err, ◌≡◌, ℕ, List, [], ◌∷◌, ◌++◌, Result, refl, sym, subst, ◌∙◌, ap, append_assoc, append-nil, ◌+◌, ◌<◌, Bool, true, false, length, arith, suc, ◌-◌, ◌≤◌, take, drop, slice_range, zero-add, inl, inr, length-append}
+use Rattle.std.proofs.Common.{Err, ◌≡◌, ℕ, List, [], ◌∷◌, ◌++◌, Result, refl, sym, subst, ◌∙◌, ap, append_assoc, append-nil, ◌+◌, ◌<◌, Bool, true, false, length, arith, suc, ◌-◌, ◌≤◌, take, drop, slice_range, zero-add, inl, inr, length-append, Ok}
 use Rattle.std.specs.List.{concat}
 use Rattle.std.proofs.lemmas.List.Folds.{concat-append}
 use Rattle.std.specs.Prelude.{Option, None, Some, IfSome, IsTrue}
@@ -283,3 +283,7 @@ pub read_failed : {S : Type 0} (gives : S → ℕ → Result (List ℕ) Status �
     → (old.failed ≡ true → (status.code ≡ Corruption) × (new ≡ old) × (to ≡ source)) → ReadResult gives old source result text new to
 read_failed gives old source result status text new to e none fails failed =
     subst (λ r. ReadResult gives old source r text new to) (sym e) (record { count = tt; found = tt; end = λ ok. absurd (cc); err = fails; failed = failed; cleared = none })
+
+-- results that are the same hold the same
+pub ok_is : {T E : Type 0} {x y : T} → ◌≡◌ {A = Result T E} (Ok x) (Ok y) → x ≡ y
+ok_is same = cc

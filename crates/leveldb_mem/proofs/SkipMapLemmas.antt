@@ -13,7 +13,7 @@ use Rattle.leveldb_base.specs.declared.error.StatusCode.TheVariants.{InvalidArgu
 use Rattle.leveldb_base.specs.Cmp.{IsPreorderOn}
 use Rattle.leveldb_base.specs.Types.{Pair, position_within, previous_position}
 use Rattle.leveldb_mem.specs.Searching.{key_at, count_while}
-use Rattle.leveldb_mem.specs.SkipMap.{IsSorted, HasNode, IsGap, position_of_node}
+use Rattle.leveldb_mem.specs.SkipMap.{Held, IsSorted, HasKey, HasNode, InsertResult, IsGap, position_of_node}
 use Rattle.leveldb_mem.specs.Placed.{head, rank, place_of, IsAt, IsPathTo, FailsToReserve}
 use Rattle.leveldb_mem.proofs.Halving.{count_at, count-le, count_before-is}
 use Rattle.leveldb_mem.proofs.PlacedLemmas.{rank-zero, rank-later, rank-same}
@@ -150,3 +150,33 @@ pub same_path : (words words' order order' path : List ℕ) (at : ℕ) → words
 same_path words words' order order' path at w o e to =
     subst (λ z. IsPathTo z path 12 (take (place_of order' path) order')) (sym w)
     (subst (λ z. IsPathTo words path 12 (take (place_of z path) z)) (sym o) (subst (λ n. IsPathTo words path 12 (take n order)) (sym e) to))
+
+-- an empty key isn't inserted
+pub refuses_empty : {C : Type 0} {accepts : List ℕ → Bool} {order : List ℕ → List ℕ → Ordering} (held : Held C) {key value : List ℕ} {status : Status} → IsSorted accepts order held.pairs
+    → key ≡ [] → status.code ≡ InvalidArgument → InsertResult accepts order held (key, value) (Err status) held
+refuses_empty held sorted none code = record {
+  cmp = refl;
+  ok = tt;
+  sorted = sorted;
+  err = refl;
+  places = refl;
+  bytes = omega arith;
+  empty = (λ h. none, λ h. code);
+  present = (λ h. absurd (let never : InvalidArgument ≡ AlreadyExists = sym code ∙ h in cc), λ h. absurd (h.0 none));
+  cause = inl code;
+}
+
+-- nor is one that is there
+pub refuses_taken : {C : Type 0} {accepts : List ℕ → Bool} {order : List ℕ → List ℕ → Ordering} (held : Held C) {key value : List ℕ} {status : Status} → IsSorted accepts order held.pairs
+    → key ≢ [] → HasKey order held.pairs key → status.code ≡ AlreadyExists → InsertResult accepts order held (key, value) (Err status) held
+refuses_taken held sorted some has code = record {
+  cmp = refl;
+  ok = tt;
+  sorted = sorted;
+  err = refl;
+  places = refl;
+  bytes = omega arith;
+  empty = (λ h. absurd (let never : AlreadyExists ≡ InvalidArgument = sym code ∙ h in cc), λ none. absurd (some none));
+  present = (λ h. (some, has), λ h. code);
+  cause = inr (inl code);
+}

@@ -202,6 +202,17 @@ declared_again bytes longer seen count long come told same =
     let both = length-append bytes come.given in
     (omega arith, told ∙ ap declared_length same ∙ sym (declared_length-append bytes come.given long) ∙ ap declared_length (sym come.bytes_are))
 
+header-append : (bytes more : List ℕ) → 7 ≤ length bytes → (slice_index (bytes ++ more) 4 ≡ slice_index bytes 4) × (slice_index (bytes ++ more) 5 ≡ slice_index bytes 5)
+header-append (a ∷ b ∷ c ∷ d ∷ low ∷ high ∷ bytes) more long = (refl, refl)
+header-append bytes more long = absurd (omega arith)
+
+-- and its numbers are bytes still
+pub bytes_again : {S : Type 0} {Gives : S → List ℕ → S → Type 0} {mid to : S} (bytes longer seen : List ℕ) → 7 ≤ length bytes → IsUnreadThenGiven Gives bytes mid longer to
+    → (slice_index seen 4 < 256) × (slice_index seen 5 < 256) → seen ≡ bytes → (slice_index longer 4 < 256) × (slice_index longer 5 < 256)
+bytes_again bytes longer seen long come are_bytes same =
+    let again = header-append bytes come.given long in
+    rw (come.bytes_are, again.0, again.1, ← same) are_bytes
+
 -- ---- what a reader takes next
 
 pub nothing_before : (unread given : List ℕ) → [] ≡ unread ++ given → unread ≡ []

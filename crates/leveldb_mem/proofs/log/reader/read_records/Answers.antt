@@ -4,7 +4,7 @@ use Rattle.std.proofs.lemmas.Result.{err_from_is_err_and}
 use Rattle.leveldb_mem.specs.Log.{log_block_size}
 use Rattle.leveldb_mem.proofs.LawsLemmas.{usual_size}
 use Rattle.leveldb_mem.specs.Log.Reader.{ReadSoFar}
-use Rattle.leveldb_mem.proofs.ReaderLemmas.{ReadSoFar-more, ReadSoFar-clean, ReadSoFar-torn, ReadSoFar-wrong, ReadSoFar-stopped, wants_memory}
+use Rattle.leveldb_mem.proofs.ReaderLemmas.{ReadSoFar-none, ReadSoFar-more, ReadSoFar-clean, ReadSoFar-torn, ReadSoFar-wrong, ReadSoFar-stopped, wants_memory}
 use Rattle.leveldb_mem.proofs.log.reader.read_records.Goals as goal
 
 pub returns-in_err-next_record-clause-err : goal.returns-in_err-next_record-clause-err
@@ -42,3 +42,7 @@ pub returns-in-Damage-clause-log : goal.returns-in-Damage-clause-log
 returns-in-Damage-clause-log g c =
     let found = rw c.in-Damage.is at c.in_ok-next_record.ensures.found in
     ReadSoFar-torn g.S.Source.gives c.args.check_crcs log_block_size usual_size c.args.source.now _ c.loop-record.core c.loop-record.source c.loop-record.invariant c.next_record.new.self c.next_record.new.source found
+
+pub loop-record-init : goal.loop-record-init
+loop-record-init g c =
+    rw (c.new-core.ensures, c.new-records.ensures.items) (ReadSoFar-none g.S.Source.gives c.args.check_crcs log_block_size usual_size c.args.source.now)

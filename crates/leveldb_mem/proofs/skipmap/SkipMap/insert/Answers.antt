@@ -1,14 +1,15 @@
 use Rattle.std.proofs.Common.{⊎_elim, ◌≡◌, ◌+◌, ◌++◌, ◌∙◌, inr, ap, sym, subst, refl, length, List, arith, ap}
 use Rattle.std.specs.List.{insert}
-use Rattle.std.proofs.lemmas.Bool.{eqb-false}
+use Rattle.std.proofs.lemmas.Bool.{eqb-true, eqb-false}
+use Rattle.std.proofs.lemmas.List.{nil_from_length}
 use Rattle.std.proofs.lemmas.Result.{err_from_is_err_and}
-use Rattle.std.proofs.lemmas.Bool.{OnFalse_at}
+use Rattle.std.proofs.lemmas.Bool.{OnTrue_at, OnFalse_at}
 use Rattle.leveldb_base.specs.Types.{Pair}
 use Rattle.leveldb_mem.specs.Placed.{place_of, FailsToReserve}
 use Rattle.leveldb_mem.specs.SkipMap.{IsSorted}
 use Rattle.leveldb_mem.proofs.Halving.{count_before-is}
 use Rattle.leveldb_mem.proofs.Rising.{placed_at, inserts_at, parted_by_order}
-use Rattle.leveldb_mem.proofs.SkipMapLemmas.{same_path, not_empty, not_present}
+use Rattle.leveldb_mem.proofs.SkipMapLemmas.{same_path, not_empty, not_present, refuses_empty, refuses_taken}
 use Rattle.leveldb_mem.proofs.skipmap.SkipMap.insert.Goals as goal
 
 pub path_for-path-requires : goal.path_for-path-requires
@@ -100,3 +101,14 @@ returns g c =
       present = (λ h. absurd h, λ h. absurd ((OnFalse_at c.if-is_taken.false c.is_taken.ensures.gap).alone h.1));
       cause = tt;
     })
+
+pub returns-then-is_empty : goal.returns-then-is_empty
+returns-then-is_empty g c =
+    let p = err_from_is_err_and c.err.result c.err.ensures.code in
+    let none = nil_from_length c.args.key.now (eqb-true (length c.args.key.now) 0 (sym c.if-is_empty.ensures)) in
+    rw (p.1, ← c.self.view_is) (refuses_empty _ c.self.invariant.0 none p.2)
+
+pub returns-then-is_taken : goal.returns-then-is_taken
+returns-then-is_taken g c =
+    let p = err_from_is_err_and c.err-then-is_taken.result c.err-then-is_taken.ensures.code in
+    rw (p.1, ← c.self.view_is) (refuses_taken _ c.self.invariant.0 (λ none. eqb-false (length c.args.key.now) 0 (sym c.if-is_empty.ensures) (ap length none)) (OnTrue_at c.if-is_taken.true c.is_taken.ensures.taken) p.2)

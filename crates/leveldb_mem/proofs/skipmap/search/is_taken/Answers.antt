@@ -1,6 +1,8 @@
-use Rattle.std.proofs.Common.{◌≤◌, arith, length}
+use Rattle.std.proofs.Common.{◌≤◌, [], arith, length}
+use Rattle.std.specs.Prelude.{slice_index_or}
+use Rattle.std.proofs.lemmas.List.Elements.{Contains-get_or}
 use Rattle.std.specs.Ordering.{is_lt}
-use Rattle.std.proofs.lemmas.Bool.{iff_false, OnFalse_from}
+use Rattle.std.proofs.lemmas.Bool.{iff_false, OnTrue_from, OnFalse_from}
 use Rattle.leveldb_mem.specs.Placed.{place_of}
 use Rattle.leveldb_mem.proofs.Halving.{count-le, count_before-is}
 use Rattle.leveldb_mem.proofs.Rising.{gap_at}
@@ -19,3 +21,17 @@ returns-then-len-gt0-clause-gap g c =
     OnFalse_from c.is_equal_after.result _ (λ f.
     gap_at (g.met.C.Cmp.preorder c.args.cmp.now) c.requires.sorted c.args.key.now c.requires.accepted (place_of c.args.pairs.now.order c.args.path.now) c.requires.place
     (λ h e. iff_false c.is_equal_after.ensures f (h, e)))
+
+pub returns-else-len-gt0-clause-gap : goal.returns-else-len-gt0-clause-gap
+returns-else-len-gt0-clause-gap g c =
+    OnFalse_from _ _ (λ f.
+    gap_at (g.met.C.Cmp.preorder c.args.cmp.now) c.requires.sorted c.args.key.now c.requires.accepted (place_of c.args.pairs.now.order c.args.path.now) c.requires.place
+    (λ h e. omega (arith, h, c.if-len-gt0.false, c.len.ensures.value)))
+
+pub returns-then-len-gt0-clause-taken : goal.returns-then-len-gt0-clause-taken
+returns-then-len-gt0-clause-taken g c =
+    OnTrue_from c.is_equal_after.result _ (λ t.
+    let pairs = c.args.pairs.now.pairs in
+    let i = place_of c.args.pairs.now.order c.args.path.now in
+    let there = c.is_equal_after.ensures.0 t in
+    (slice_index_or pairs i ([], []), Contains-get_or pairs i ([], []) there.0, there.1))

@@ -1,7 +1,8 @@
-use Rattle.std.proofs.Common.{◌∙◌}
+use Rattle.std.proofs.Common.{◌∙◌, ap, sym, length, Ok, arith}
+use Rattle.std.proofs.lemmas.List.{nil_from_length}
 use Rattle.std.proofs.lemmas.Result.{err_from_is_err_and}
 use Rattle.leveldb_mem.specs.Log.Reader.{wrong_checksum, torn}
-use Rattle.leveldb_mem.proofs.ReaderLemmas.{read_failed, read_stopped}
+use Rattle.leveldb_mem.proofs.ReaderLemmas.{read_failed, read_stopped, ok_is}
 use Rattle.leveldb_mem.proofs.log.reader.ReaderCore.read.Goals as goal
 use Rattle.leveldb_mem.proofs.log.reader.ReaderCore.read.Goals.{in-Ok-WrongChecksum, in-Ok-Damage, in-Err}
 
@@ -21,3 +22,28 @@ returns g c =
           fails p.0 _ _ _ (w.failed-is ∙ p.1) c.clear.ensures.items (λ usable. torn p.2 found (broken tt)) (λ failed. absurd (w.in-Ok-Damage.ensures.failed failed).0))
       | in-Err w ↦ fails _ _ _ _ w.failed-is c.clear.ensures.items (λ usable. read_stopped g.S.Source.gives (w.in-Err.ensures.err usable).0 (w.in-Err.ensures.err usable).1) (λ failed. w.in-Err.ensures.failed failed)
     ]
+
+pub returns-in-Ok-Record : goal.returns-in-Ok-Record
+returns-in-Ok-Record g c =
+    let found = rw c.in-Ok-Record.field-0-is at c.in-Ok-Record.ensures.found in
+    let counted = c.len.ensures ∙ c.next_record.new.target.ok.0 in
+    record {
+      count = counted;
+      found = λ some. found;
+      end = λ none. absurd (found.is_record.some (nil_from_length c.next_record.new.target.items (sym counted ∙ ok_is none)));
+      err = λ usable. tt;
+      failed = λ failed. absurd (c.in-Ok-Record.ensures.failed failed).0;
+      cleared = tt;
+    }
+
+pub returns-in-Ok-End : goal.returns-in-Ok-End
+returns-in-Ok-End g c =
+    let found = rw c.in-Ok-End.field-0-is at c.in-Ok-End.ensures.found in
+    record {
+      count = sym (ap length found.1);
+      found = λ some. absurd (omega (arith, some));
+      end = λ none. found.0;
+      err = λ usable. tt;
+      failed = λ failed. absurd (c.in-Ok-End.ensures.failed failed).0;
+      cleared = tt;
+    }

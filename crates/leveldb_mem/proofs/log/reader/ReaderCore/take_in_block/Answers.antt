@@ -5,7 +5,7 @@ use Rattle.leveldb_env.specs.Source.{GivesUp}
 use Rattle.leveldb_mem.specs.Log.Reader.{at_end, whatever_follows}
 use Rattle.leveldb_mem.specs.Log.Taking.{declared_length, with_unread, PassesFragment, TakesNext}
 use Rattle.leveldb_mem.proofs.ReaderLemmas.{UnreadThenGiven-after, UnreadThenGivenAll-after, GivesUp-after, wants_memory}
-use Rattle.leveldb_mem.proofs.TakingLemmas.{none_past, none_cut, declared_again, takes_end, takes_passed}
+use Rattle.leveldb_mem.proofs.TakingLemmas.{none_past, none_cut, declared_again, bytes_again, takes_end, takes_passed}
 use Rattle.leveldb_mem.proofs.log.reader.ReaderCore.take_in_block.Goals as goal
 
 pub returns-then-not-branch-clause-ok : goal.returns-then-not-branch-clause-ok
@@ -62,3 +62,16 @@ returns-clause-err g c =
     let more = c.in_ok-fill-2.ensures.there c.if-not-branch-2.false in
     IfErr-weaker c.pass_fragment.result IsOutOfMemory (λ status. GivesUp g.S.Source.gives c.args.source.now status c.fill-2.new.source)
     (λ status memory. GivesUp-after g.S.Source.gives there.0.reads (GivesUp-after g.S.Source.gives more.0.reads (wants_memory g.S.Source.gives c.fill-2.new.source status memory))) c.pass_fragment.ensures.cause
+
+pub pass_fragment-requires-clause-stated : goal.pass_fragment-requires-clause-stated
+pass_fragment-requires-clause-stated g c =
+    let there = c.in_ok-fill.ensures.there c.if-not-branch.false in
+    let more = c.in_ok-fill-2.ensures.there c.if-not-branch-2.false in
+    let told = declared_again c.fill.new.self.unread c.fill-2.new.self.unread c.unread.result.now c.data_length-count.result there.1 more.0 c.data_length-count.ensures.stated c.unread.ensures.value in
+    told.1
+
+pub pass_fragment-requires-clause-bytes : goal.pass_fragment-requires-clause-bytes
+pass_fragment-requires-clause-bytes g c =
+    let there = c.in_ok-fill.ensures.there c.if-not-branch.false in
+    let more = c.in_ok-fill-2.ensures.there c.if-not-branch-2.false in
+    bytes_again c.fill.new.self.unread c.fill-2.new.self.unread c.unread.result.now there.1 more.0 c.data_length-count.ensures.bytes c.unread.ensures.value

@@ -154,3 +154,48 @@ returns-clause-pairs c =
 
 pub returns-clause-nodes : goal.returns-clause-nodes
 returns-clause-nodes c = sym (length-pairs_of_nodes _ _ _)
+
+pub overflow_cast-self-inside : goal.overflow_cast-self-inside
+overflow_cast-self-inside c = omega (arith, c.self.invariant.0.within, c.self.invariant.5, c.self.inside.text.ok.0)
+
+pub overflow_cast-key_length : goal.overflow_cast-key_length
+overflow_cast-key_length c =
+    let it = c.self.inside in
+    let key_is = rw (← c.self.view_is) at c.requires.key in
+    omega (arith, key_is, length-drop it.end it.text.items, c.self.invariant.5, it.text.ok.0)
+
+pub overflow_cast-value_length : goal.overflow_cast-value_length
+overflow_cast-value_length c = omega (arith, c.len-end.ensures, c.self.invariant.5)
+
+pub overflow_cast-node : goal.overflow_cast-node
+overflow_cast-node c =
+    let room = rw (← c.self.view_is) at c.requires.room in
+    omega (arith, c.len.ensures, c.self.invariant.3, room)
+
+pub overflow_add-node : goal.overflow_add-node
+overflow_add-node c =
+    let room = rw (← c.self.view_is) at c.requires.room in
+    omega (arith, c.len.ensures, c.self.invariant.3, room)
+
+pub overflow_add-self : goal.overflow_add-self
+overflow_add-self c = omega (arith, c.self.invariant.0.counted, c.self.invariant.3, c.self.inside.words.ok.0)
+
+pub overflow_sub-self : goal.overflow_sub-self
+overflow_sub-self c = rw (← c.self.view_is) at c.requires.room
+
+pub overflow_sub-value_length : goal.overflow_sub-value_length
+overflow_sub-value_length c = omega (arith, c.len-end.ensures, c.self.invariant.0.within, c.self.inside.text.ok.0)
+
+pub overflow_sub-value_length-2 : goal.overflow_sub-value_length-2
+overflow_sub-value_length-2 c =
+    let it = c.self.inside in
+    let key_is = rw (← c.self.view_is) at c.requires.key in
+    omega (arith, key_is, length-drop it.end it.text.items, c.len-end.ensures, it.text.ok.0)
+
+pub returns-clause-bytes : goal.returns-clause-bytes
+returns-clause-bytes c = ap (λ pairs. pairs.bytes) c.self.view_is
+
+pub returns-clause-places : goal.returns-clause-places
+returns-clause-places c =
+    let room = rw (← c.self.view_is) at c.requires.room in
+    omega (arith, room, ap (λ pairs. pairs.places) c.self.view_is)
