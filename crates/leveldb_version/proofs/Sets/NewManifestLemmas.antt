@@ -135,9 +135,9 @@ pub current_unread : {T U : Type 0} {models_disk : Bool} {path : List ℕ} {befo
     → IsErrAnd result (λ it. it ≡ status) → path ≡ current_path store → HasCause {T = T} (IsLost models_disk path observed before now) before now (Err status)
     → HasCause (IsCurrentUnread models_disk store observed before now) before now result
 current_unread store observed status (Ok value) same is cause = absurd same
-current_unread {T = T} {models_disk = models_disk} {before = before} {now = now} store observed status (Err it) same is cause =
+current_unread {T = T} {models_disk = models_disk} {path = path} {before = before} {now = now} store observed status (Err it) same is cause =
     let lost = subst (λ p. HasCause {T = T} (IsLost models_disk p observed before now) before now (Err it)) is
-    (subst (λ e. HasCause {T = T} (IsLost models_disk _ observed before now) before now (Err e)) (sym same) cause) in
+    (subst (λ e. HasCause {T = T} (IsLost models_disk path observed before now) before now (Err e)) (sym same) cause) in
     record {
       later = lost.later;
       ok = tt;

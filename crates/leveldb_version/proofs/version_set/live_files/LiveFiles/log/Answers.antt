@@ -4,8 +4,8 @@ use Rattle.leveldb_base.specs.Error.{IsOutOfMemory}
 use Rattle.leveldb_env.proofs.EnvLemmas.{begun}
 use Rattle.leveldb_env.specs.Env.{AreBytes}
 use Rattle.leveldb_version.proofs.ExitLemmas.{cause_passed}
-use Rattle.leveldb_version.specs.Sets.LogEdit.{edit_record}
-use Rattle.leveldb_files.specs.Edits.Edit.{edit_bytes}
+use Rattle.leveldb_version.specs.Sets.LogEdit.{BeginsManifest, edit_record, written_edit}
+use Rattle.leveldb_files.specs.Edits.Edit.{Edit, edit_bytes}
 use Rattle.leveldb_version.specs.Edits.VersionEdit.{edit_of}
 use Rattle.leveldb_version.specs.Sets.VersionSetValue.{OpenManifest, VersionSetValue, manifest_state}
 use Rattle.leveldb_version.proofs.Sets.LogEditLemmas.{broken_view, has_bytes, is_made, is_so, none_used, not_appended, not_begun, same_view, state_of, used_one}
@@ -64,9 +64,12 @@ pub returns-in_default : goal.returns-in_default
 returns-in_default g c =
     let state : manifest_state c.self.inside.broken None ≡ c.args.self.now.manifest =
     ap (manifest_state c.self.inside.broken) (sym c.in_default.is) ∙ ap (λ (s : VersionSetValue). s.manifest) c.self.view_is in
+    let Begins : VersionSetValue → Type 0 = λ set. (logged : Edit) → edit_of c.args.edit ≡ written_edit set logged
+    → BeginsManifest g.E.Env.models_disk set logged (g.E.Env.observed c.args.env.now) (g.E.Env.failures c.args.env.now) c.begin_manifest.result c.begin_manifest.new.self
+    (g.E.Env.observed c.begin_manifest.new.env) (g.E.Env.failures c.begin_manifest.new.env) in
     record {
       used = λ logged is manifest used. absurd (none_used c.self.inside.broken manifest (state ∙ used));
-      not_made = λ logged is none. c.begin_manifest.ensures.begins logged is;
+      not_made = λ logged is none. subst Begins c.self.view_is c.begin_manifest.ensures.begins logged is;
       bytes = λ logged is manifest used. absurd (none_used c.self.inside.broken manifest (state ∙ used));
       locks = c.begin_manifest.ensures.locks;
     }
