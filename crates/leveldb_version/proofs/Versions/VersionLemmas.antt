@@ -4,9 +4,9 @@ use Rattle.std.proofs.lemmas.Bool.{eq-eqb, eqb-true, leb-true, leb-false, ltb-tr
 use Rattle.leveldb_base.proofs.OrderLemmas.{is_false}
 use Rattle.std.proofs.lemmas.Cmp.{back_total, nat_cmp_total, on_total, ranked, then_total, tied_itself}
 use Rattle.std.proofs.lemmas.Bool.Decides.{nat_tests}
-use Rattle.std.proofs.lemmas.List.{append-nil, drop_all, get_or-drop, get_or-map, get_or-take, length-drop, length-map, length-take, map-append, map_more, take_all}
+use Rattle.std.proofs.lemmas.List.{append-nil, drop_all, get_or-drop, get_or-map, get_or-take, length-drop, length-map, length-take, map_more, take_all}
 use Rattle.std.proofs.lemmas.Fn.{always_returns_same}
-use Rattle.std.proofs.lemmas.List.Elements.{All-map, All-weaker, filter-append, filter_passes}
+use Rattle.std.proofs.lemmas.List.Elements.{All-map, All-weaker, filter_passes}
 use Rattle.std.proofs.lemmas.List.Kept.{IsSortedBy-filter}
 use Rattle.std.proofs.lemmas.List.Sorted.{IsNonDecreasingBy-from_all_adjacent, ranks_by}
 use Rattle.std.specs.Borrow.{Bor}
@@ -20,7 +20,7 @@ use Rattle.std.specs.declared.cmp.Ordering.TheVariants.{Equal, Greater, Less}
 use Rattle.leveldb_base.specs.KeyTypes.{internal_cmp, sequence_part, user_part}
 use Rattle.leveldb_base.specs.declared.types.FileMetaData.{FileMetaData}
 use Rattle.leveldb_files.specs.Levels.Summary.{files_of_level}
-use Rattle.leveldb_version.specs.Versions.Version.{AreInVersionOrder, FilesFit, IsRangeOfLevel, at_level, borrowed_files, is_named, version_order, after_seek}
+use Rattle.leveldb_version.specs.Versions.Version.{AreInVersionOrder, FilesFit, IsRangeOfLevel, at_level, is_named, version_order, after_seek}
 use Rattle.leveldb_files.specs.Edits.Edit.{LevelFile, NewFile}
 use Rattle.leveldb_version.specs.Edits.VersionEdit.{new_file_of}
 
@@ -377,25 +377,3 @@ module _ {A B : Type 0} (f : A → B) where
   made_more xs i x y ys after inside is so one more =
       more ∙ (ap (λ z. ys ++ z ∷ []) one ∙ (ap (λ zs. zs ++ f x ∷ []) so
       ∙ sym (map_more f xs i x inside ∙ ap (λ z. map f (take i xs) ++ f z ∷ []) (sym is))))
-
--- ---- the files that pass a test, one after another
-
-module _ (p : NewFile → Bool) (files : List (ℕ × FileMetaData)) (i : ℕ) (file : ℕ × FileMetaData) (inside : i < length files) (is : file ≡ get_or files i file) where
-  one_more : filter p (map new_file_of (take (i + 1) files)) ≡ filter p (map new_file_of (take i files)) ++ cond (p (new_file_of file)) (new_file_of file ∷ []) []
-  one_more =
-      ap (filter p) (map_more new_file_of files i file inside ∙ ap (λ f. map new_file_of (take i files) ++ new_file_of f ∷ []) (sym is))
-      ∙ filter-append p (map new_file_of (take i files)) (new_file_of file ∷ [])
-
-  -- a file that passes is found, too
-  pub found_more : (found after : List (Bor (ℕ × FileMetaData))) (ref : Bor (ℕ × FileMetaData)) → borrowed_files found ≡ filter p (map new_file_of (take i files)) → after ≡ found ++ ref ∷ [] → ref.now ≡ file → p (new_file_of file) ≡ true
-      → borrowed_files after ≡ filter p (map new_file_of (take (i + 1) files))
-  found_more found after ref so more its passes =
-      ap borrowed_files more ∙ map-append (λ (f : Bor (ℕ × FileMetaData)). new_file_of f.now) found (ref ∷ [])
-      ∙ ap (λ f. borrowed_files found ++ new_file_of f ∷ []) its ∙ ap (λ fs. fs ++ new_file_of file ∷ []) so
-      ∙ sym (one_more ∙ ap (λ b. filter p (map new_file_of (take i files)) ++ cond b (new_file_of file ∷ []) []) passes)
-
-  -- and one that doesn't isn't
-  pub found_same : (found after : List (Bor (ℕ × FileMetaData))) → borrowed_files found ≡ filter p (map new_file_of (take i files)) → after ≡ found → p (new_file_of file) ≡ false → borrowed_files after ≡ filter p (map new_file_of (take (i + 1) files))
-  found_same found after so same fails =
-      ap borrowed_files same ∙ so
-      ∙ sym (one_more ∙ ap (λ b. filter p (map new_file_of (take i files)) ++ cond b (new_file_of file ∷ []) []) fails ∙ append-nil (filter p (map new_file_of (take i files))))
