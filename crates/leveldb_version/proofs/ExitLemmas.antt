@@ -1,11 +1,11 @@
 -- The exits of a `?`: what a clause says of the error that is passed on.
-use Rattle.std.proofs.Common.{◌≡◌, ℕ, Bool, arith, inl, refl, sym, subst}
+use Rattle.std.proofs.Common.{◌≡◌, ◌∙◌, ℕ, Bool, arith, inl, refl, sym, subst}
 use Rattle.std.proofs.lemmas.Bool.{true≢false}
 use Rattle.std.specs.Prelude.{Err, IfErr, IsErr, Ok, OnErr, Result}
 use Rattle.std.specs.Result.{IsErrAnd}
 use Rattle.leveldb_base.specs.declared.error.Status.{Status}
-use Rattle.leveldb_env.proofs.EnvLemmas.{ChangesFiles-refused, begun}
-use Rattle.leveldb_env.specs.Env.{ChangesFiles, Files, HasCause, Observed}
+use Rattle.leveldb_env.proofs.EnvLemmas.{ChangesFiles-refused, Run-trans, begun}
+use Rattle.leveldb_env.specs.Env.{ChangesFiles, Files, FilesUnchanged, HasCause, Observed, Run}
 
 module _ {T E : Type 0} (P : E → Type 0) where
   -- an error that is made there
@@ -34,3 +34,13 @@ nothing_done {observed = observed} refused stays = ChangesFiles-refused refused 
 pub excused : {T : Type 0} {Excused : Status → Type 0} {failed : ℕ} (result : Result T Status) → IsErr result → IfErr result Excused → HasCause Excused failed failed result
 excused (Ok value) refused why = absurd (true≢false (sym refused))
 excused (Err status) refused why = record { later = omega arith; ok = tt; uncounted = λ is. refl; cause = inl why }
+
+-- ---- calls of an environment one after another
+
+-- no file changes
+pub still_then : {first mid last : Observed} → Run (FilesUnchanged first.disk.files) first mid → Run (FilesUnchanged mid.disk.files) mid last → Run (FilesUnchanged first.disk.files) first last
+still_then one two = Run-trans one (λ files is. is ∙ one.has) two
+
+-- no failure was counted
+pub uncounted : {T : Type 0} {Excused : Status → Type 0} {before now : ℕ} {value : T} → now ≡ before → HasCause Excused before now (Ok value)
+uncounted is = record { later = omega arith; ok = is; uncounted = tt; cause = tt }

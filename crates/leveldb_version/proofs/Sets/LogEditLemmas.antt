@@ -11,12 +11,12 @@ use Rattle.leveldb_env.specs.Env.{AppendedAreBytes, BeforeOrAfter, ChangesFiles,
 use Rattle.leveldb_env.proofs.EnvLemmas.{ChangesFiles-refused, cause_refused, Run-call, Run-mono, appended, at_same, begun, call, cause_same, nothing_appended}
 use Rattle.leveldb_env.specs.WholeFiles.{IsLost, IsLostUnobserved}
 use Rattle.leveldb_mem.specs.Log.LogFile.{AppendsRecord, IsFileLost, LogFileState, SyncsRecords, broken_log, with_record}
-use Rattle.leveldb_mem.specs.Log.Writer.{frame}
+use Rattle.leveldb_mem.specs.Log.Writer.{after_frame, frame}
 use Rattle.leveldb_base.specs.Error.{IsOutOfMemory}
 use Rattle.leveldb_version.specs.Edits.FullEdit.{files_after, full_after}
 use Rattle.leveldb_version.proofs.ExitLemmas.{excused, nothing_done}
 use Rattle.leveldb_version.specs.Sets.CurrentFile.{temp_path}
-use Rattle.leveldb_version.specs.Sets.LogEdit.{AppendingAndSyncing, AppendsEdit, BeginsManifest, LogEditResult, new_manifest, new_records, set_begun, with_bytes_kept}
+use Rattle.leveldb_version.specs.Sets.LogEdit.{AppendingAndSyncing, AppendsEdit, BeginsManifest, LogEditResult, edit_record, new_manifest, new_records, set_appended, set_begun, with_bytes_kept}
 use Rattle.leveldb_version.specs.Sets.NewManifest.{MakingManifest, manifest_bytes, with_manifest}
 use Rattle.leveldb_files.specs.Edits.Edit.{Edit, Field, LevelsFit, adds, comparator_is, deletes, edit_bytes, field_bytes, last_sequence_is, log_is, next_file_is, points, previous_log_is}
 use Rattle.leveldb_version.specs.Sets.VersionSetValue.{ManifestState, OpenManifest, VersionSetValue, broken, in_use, manifest_state, unmade}
@@ -169,6 +169,16 @@ is_so false manifest is = absurd (cc is)
 pub begun_view : {inside set : VersionSetValue} (logged full : Edit) (log : ℕ) (state : ManifestState) → inside ≡ set → full ≡ full_after set.full logged → log ≡ unwrap_or logged.log_number set.log_number
     → state ≡ in_use (new_manifest set logged) → record inside { full = full; given = None; log_number = log; previous_log = 0; manifest = state } ≡ set_begun set logged
 begun_view {inside} {set} logged full log state same a b c =
+    ap {A = VersionSetValue} (λ s. record s { full = full; given = None; log_number = log; previous_log = 0; manifest = state }) same
+    ∙ ap (λ f. record set { full = f; given = None; log_number = log; previous_log = 0; manifest = state }) a
+    ∙ ap (λ n. record set { full = full_after set.full logged; given = None; log_number = n; previous_log = 0; manifest = state }) b
+    ∙ ap (λ m. record set { full = full_after set.full logged; given = None; log_number = unwrap_or logged.log_number set.log_number; previous_log = 0; manifest = m }) c
+
+-- the set with a record more in its manifest
+pub appended_view : {inside set : VersionSetValue} (manifest : OpenManifest) (logged full : Edit) (log : ℕ) (state : ManifestState) → inside ≡ set → full ≡ full_after set.full logged
+    → log ≡ unwrap_or logged.log_number set.log_number → state ≡ in_use (record manifest { writer = after_frame manifest.writer (edit_record set logged) })
+    → record inside { full = full; given = None; log_number = log; previous_log = 0; manifest = state } ≡ set_appended manifest set logged
+appended_view {inside} {set} manifest logged full log state same a b c =
     ap {A = VersionSetValue} (λ s. record s { full = full; given = None; log_number = log; previous_log = 0; manifest = state }) same
     ∙ ap (λ f. record set { full = f; given = None; log_number = log; previous_log = 0; manifest = state }) a
     ∙ ap (λ n. record set { full = full_after set.full logged; given = None; log_number = n; previous_log = 0; manifest = state }) b

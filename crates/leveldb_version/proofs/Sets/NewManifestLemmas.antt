@@ -10,12 +10,12 @@ use Rattle.leveldb_base.specs.declared.error.Status.{Status}
 use Rattle.leveldb_base.specs.declared.types.FileType.TheVariants.{Current, Descriptor, Temp}
 use Rattle.leveldb_base.proofs.NamesLemmas.{made_paths_apart}
 use Rattle.leveldb_env.specs.Env.{AppendedAreBytes, ChangesFiles, Files, HasCause, Observed, Run, SameBut, SameLocks, kept_file, with_file}
-use Rattle.leveldb_env.specs.WholeFiles.{IsLost, IsLostUnobserved}
+use Rattle.leveldb_env.specs.WholeFiles.{IsLostUnobserved}
 use Rattle.leveldb_env.specs.Sink.{AppendsBytes}
 use Rattle.leveldb_env.proofs.EnvLemmas.{ChangesFiles-refused, cause_refused, Run-call, Run-mono, at_other, at_same, bytes_eq-apart, call}
 use Rattle.leveldb_mem.specs.Log.{framed, framed_record, log_block_size, offset_after}
 use Rattle.leveldb_mem.specs.Log.Writer.{AddsRecord, WriterState, frame}
-use Rattle.leveldb_version.specs.Sets.CurrentFile.{IsCurrentUnread, SettingCurrent, temp_path, with_current}
+use Rattle.leveldb_version.specs.Sets.CurrentFile.{SettingCurrent, temp_path, with_current}
 use Rattle.leveldb_version.specs.Sets.NewManifest.{MakingManifest, manifest_bytes, with_manifest}
 use Rattle.leveldb_version.specs.Sets.NewStore.{MakesManifest}
 use Rattle.leveldb_version.proofs.ExitLemmas.{excused, nothing_done}
@@ -127,20 +127,3 @@ module _ {store : List ℕ} {n : ℕ} {edit : Edit} {models_disk : Bool} where
           locks = locks;
           cause = record { later = cause.later; ok = cause.ok; uncounted = tt; cause = tt };
         }
-
--- ---- `CURRENT`
-
--- a file that isn't read at the path of `CURRENT`
-pub current_unread : {T U : Type 0} {models_disk : Bool} {path : List ℕ} {before now : ℕ} (store : List ℕ) (observed : Observed) (status : Status) (result : Result U Status)
-    → IsErrAnd result (λ it. it ≡ status) → path ≡ current_path store → HasCause {T = T} (IsLost models_disk path observed before now) before now (Err status)
-    → HasCause (IsCurrentUnread models_disk store observed before now) before now result
-current_unread store observed status (Ok value) same is cause = absurd same
-current_unread {T = T} {models_disk = models_disk} {before = before} {now = now} store observed status (Err it) same is cause =
-    let lost = subst (λ p. HasCause {T = T} (IsLost models_disk p observed before now) before now (Err it)) is
-    (subst (λ e. HasCause {T = T} (IsLost models_disk _ observed before now) before now (Err e)) (sym same) cause) in
-    record {
-      later = lost.later;
-      ok = tt;
-      uncounted = λ why. ⊎_elim (λ unread. lost.uncounted unread) (λ none. none.2) why;
-      cause = ⊎_elim (λ why. inl (inl why)) (λ counted. inr counted) lost.cause;
-    }

@@ -20,3 +20,15 @@ returns-in_err-key-clause-gets g c = λ modelled was. gets_uncopied g.E.Env c.fr
 
 pub returns-clause-gets : goal.returns-clause-gets
 returns-clause-gets g c = λ modelled was. rw (c.in_ok-key.ensures, c.key.ensures) (rw c.in-Some.is at (c.in_ok-value.ensures.gets modelled was))
+
+pub returns-in_default-clause-uses : goal.returns-in_default-clause-uses
+returns-in_default-clause-uses g c = rw c.in_default.is at c.in_ok-value.ensures.uses
+
+pub returns-in_default-clause-in_open : goal.returns-in_default-clause-in_open
+returns-in_default-clause-in_open g c = λ table there. rw c.in_default.is at (c.in_ok-value.ensures.in_open table there)
+
+pub returns-clause-uses : goal.returns-clause-uses
+returns-clause-uses g c = rw (c.in_ok-key.ensures, c.key.ensures) (rw c.in-Some.is at c.in_ok-value.ensures.uses)
+
+pub returns-clause-in_open : goal.returns-clause-in_open
+returns-clause-in_open g c = λ table there. rw (c.in_ok-key.ensures, c.key.ensures) (rw c.in-Some.is at (c.in_ok-value.ensures.in_open table there))

@@ -1,5 +1,5 @@
 use Rattle.std.proofs.lemmas.Result.{IfOk-from_err}
-use Rattle.leveldb_version.proofs.ExitLemmas.{cause_is}
+use Rattle.leveldb_version.proofs.ExitLemmas.{cause_is, cause_passed}
 use Rattle.leveldb_version.proofs.table_cache.TableCache.new.Goals as goal
 
 pub returns-in_err-from_str : goal.returns-in_err-from_str
@@ -17,7 +17,7 @@ returns-in_err-new g c =
     record {
       ok = IfOk-from_err exit.result _ exit.ensures.0;
       matches = IfOk-from_err exit.result _ exit.ensures.0;
-      memory = cause_is _ exit.result exit.ensures.1;
+      memory = cause_passed _ exit.result _ exit.ensures.1 c.in_err-new.ensures.memory;
     }
 
 pub returns-in_err-new-2 : goal.returns-in_err-new-2
@@ -26,5 +26,5 @@ returns-in_err-new-2 g c =
     record {
       ok = IfOk-from_err exit.result _ exit.ensures.0;
       matches = IfOk-from_err exit.result _ exit.ensures.0;
-      memory = cause_is _ exit.result exit.ensures.1;
+      memory = cause_passed _ exit.result _ exit.ensures.1 c.in_err-new-2.ensures.memory;
     }

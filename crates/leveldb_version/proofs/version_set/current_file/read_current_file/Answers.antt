@@ -1,8 +1,7 @@
-use Rattle.std.proofs.Common.{inl, refl, ◌∙◌}
+use Rattle.std.proofs.Common.{inl, refl}
 use Rattle.std.proofs.lemmas.Result.{IfOk-from_err}
 use Rattle.leveldb_env.proofs.EnvLemmas.{Run-call, begun}
 use Rattle.leveldb_version.proofs.ExitLemmas.{cause_passed, excused}
-use Rattle.leveldb_version.proofs.Sets.NewManifestLemmas.{current_unread}
 use Rattle.leveldb_version.proofs.version_set.current_file.read_current_file.Goals as goal
 
 pub returns-in_err-path : goal.returns-in_err-path
@@ -15,12 +14,17 @@ returns-in_err-path g c =
       cause = excused exit.result exit.ensures.0 (cause_passed _ exit.result _ exit.ensures.1 (inl (inl c.in_err-path.ensures.cause)));
     }
 
-pub returns-in_err-text : goal.returns-in_err-text
-returns-in_err-text g c =
-    let exit = c.from_residual-in_err-text in
-    record {
-      still = λ modelled. Run-call modelled (c.in_err-text.ensures.does modelled);
-      locks = c.in_err-text.ensures.locks;
-      ok = IfOk-from_err exit.result _ exit.ensures.0;
-      cause = current_unread c.args.store.now (g.E.Env.observed c.args.env.now) c.in_err-text.field-0.0 exit.result exit.ensures.1 (c.deref.ensures ∙ c.in_ok-path.ensures.ok) c.in_err-text.ensures.cause;
-    }
+pub returns-in_err-text-clause-still : goal.returns-in_err-text-clause-still
+returns-in_err-text-clause-still g c = λ modelled. Run-call modelled (c.in_err-text.ensures.does modelled)
+
+pub returns-in_err-text-clause-locks : goal.returns-in_err-text-clause-locks
+returns-in_err-text-clause-locks g c = c.in_err-text.ensures.locks
+
+pub returns-in_err-text-clause-ok : goal.returns-in_err-text-clause-ok
+returns-in_err-text-clause-ok g c = IfOk-from_err c.from_residual-in_err-text.result _ c.from_residual-in_err-text.ensures.0
+
+pub returns-clause-still : goal.returns-clause-still
+returns-clause-still g c = λ modelled. Run-call modelled (c.read_file.ensures.does modelled)
+
+pub returns-clause-locks : goal.returns-clause-locks
+returns-clause-locks g c = c.read_file.ensures.locks

@@ -3,12 +3,15 @@ use Rattle.std.proofs.lemmas.Result.{IfOk-from_err, err_from_is_err_and}
 use Rattle.leveldb_base.specs.Error.{IsOutOfMemory}
 use Rattle.leveldb_env.proofs.EnvLemmas.{begun}
 use Rattle.leveldb_env.specs.Env.{AreBytes}
+use Rattle.std.specs.Option.{unwrap_or}
+use Rattle.leveldb_mem.specs.Log.Writer.{after_frame}
+use Rattle.leveldb_version.specs.Edits.FullEdit.{full_after}
 use Rattle.leveldb_version.proofs.ExitLemmas.{cause_passed}
-use Rattle.leveldb_version.specs.Sets.LogEdit.{edit_record}
-use Rattle.leveldb_files.specs.Edits.Edit.{edit_bytes}
+use Rattle.leveldb_version.specs.Sets.LogEdit.{BeginsManifest, edit_record, written_edit}
+use Rattle.leveldb_files.specs.Edits.Edit.{Edit, edit_bytes}
 use Rattle.leveldb_version.specs.Edits.VersionEdit.{edit_of}
 use Rattle.leveldb_version.specs.Sets.VersionSetValue.{OpenManifest, VersionSetValue, manifest_state}
-use Rattle.leveldb_version.proofs.Sets.LogEditLemmas.{broken_view, has_bytes, is_made, is_so, none_used, not_appended, not_begun, same_view, state_of, used_one}
+use Rattle.leveldb_version.proofs.Sets.LogEditLemmas.{appended_view, broken_view, has_bytes, is_made, is_so, log_of, none_used, not_appended, not_begun, same_view, state_of, used_one}
 use Rattle.leveldb_version.proofs.version_set.live_files.LiveFiles.log.Goals as goal
 
 pub append_record-appended-requires-clause-some : goal.append_record-appended-requires-clause-some
@@ -64,9 +67,12 @@ pub returns-in_default : goal.returns-in_default
 returns-in_default g c =
     let state : manifest_state c.self.inside.broken None ≡ c.args.self.now.manifest =
     ap (manifest_state c.self.inside.broken) (sym c.in_default.is) ∙ ap (λ (s : VersionSetValue). s.manifest) c.self.view_is in
+    let Begins : VersionSetValue → Type 0 = λ set. (logged : Edit) → edit_of c.args.edit ≡ written_edit set logged
+    → BeginsManifest g.E.Env.models_disk set logged (g.E.Env.observed c.args.env.now) (g.E.Env.failures c.args.env.now) c.begin_manifest.result c.begin_manifest.new.self
+    (g.E.Env.observed c.begin_manifest.new.env) (g.E.Env.failures c.begin_manifest.new.env) in
     record {
       used = λ logged is manifest used. absurd (none_used c.self.inside.broken manifest (state ∙ used));
-      not_made = λ logged is none. c.begin_manifest.ensures.begins logged is;
+      not_made = λ logged is none. subst Begins c.self.view_is c.begin_manifest.ensures.begins logged is;
       bytes = λ logged is manifest used. absurd (none_used c.self.inside.broken manifest (state ∙ used));
       locks = c.begin_manifest.ensures.locks;
     }
@@ -101,3 +107,27 @@ returns-clause-bytes g c = λ logged is manifest used.
     let text : c.deref.result.now ≡ edit_record c.args.self.now logged = c.deref.ensures.value ∙ c.in_ok-text.ensures.ok ∙ ap edit_bytes is in
     let fits : c.self.inside.next_file < 2 ^ 64 = omega arith in
     inl (subst AreBytes text c.append_record-appended.ensures.bytes, subst (λ n. n < 2 ^ 64) (ap (λ (s : VersionSetValue). s.next_file) c.self.view_is) fits)
+
+pub returns-clause-used : goal.returns-clause-used
+returns-clause-used g c = λ logged is manifest used.
+    let set : VersionSetValue = c.args.self.now in
+    let made : c.self.inside.manifest ≡ Some c.in-Some.manifest = search rules in
+    let both = used_one c.self.inside.broken c.in-Some.manifest manifest (ap (manifest_state c.self.inside.broken) (sym made) ∙ ap (λ (s : VersionSetValue). s.manifest) c.self.view_is ∙ used) in
+    let text : c.deref.result.now ≡ edit_record set logged = c.deref.ensures.value ∙ c.in_ok-text.ensures.ok ∙ ap edit_bytes is in
+    let usable : c.in-Some.manifest.writer.broken ≡ false = search rules in
+    let held : c.is_broken-self-inside.result ≡ c.append_record-appended.new.manifest.writer.broken = search rules in
+    let full_is : edit_of c.reserve.new.full ≡ set.full = c.in_ok-reserve.ensures.same ∙ ap (λ (s : VersionSetValue). s.full) c.self.view_is in
+    let appended = c.in_ok-appended.ensures.ok in
+    let after : c.append_record-appended.new.manifest ≡ record manifest { writer = after_frame manifest.writer (edit_record set logged) } =
+    appended ∙ ap (λ (m : OpenManifest). record m { writer = after_frame m.writer c.deref.result.now }) both.1
+    ∙ ap (λ t. record manifest { writer = after_frame manifest.writer t }) text in
+    record {
+      does = rw (both.1, text) at c.in_ok-appended.ensures.does;
+      ok = appended_view manifest logged _ _ _ c.self.view_is
+          (c.apply_reserved.ensures ∙ ap (λ f. full_after f (edit_of c.args.edit)) full_is ∙ ap (full_after set.full) is)
+          (c.unwrap_or-self-inside.ensures ∙ ap (λ n. unwrap_or c.args.edit.log_number n) (ap (λ (s : VersionSetValue). s.log_number) c.self.view_is)
+          ∙ ap (λ (e : Edit). unwrap_or e.log_number set.log_number) is ∙ log_of logged.log_number set.log_number)
+          (state_of c.is_broken-self-inside.result c.append_record-appended.new.manifest _ (held ∙ ap (λ (m : OpenManifest). m.writer.broken) appended ∙ usable) after);
+      err = tt;
+      cause = rw both.1 at c.in_ok-appended.ensures.cause;
+    }

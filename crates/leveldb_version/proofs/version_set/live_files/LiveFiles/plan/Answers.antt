@@ -1,8 +1,9 @@
 use Rattle.std.proofs.Common.{◌≡◌, ◌∙◌, rules, subst, sym}
 use Rattle.std.specs.Prelude.{if◌then◌else◌, string_bytes}
-use Rattle.std.proofs.lemmas.Result.{err_from_is_err_and}
+use Rattle.std.proofs.lemmas.Result.{IfOk-from_err, err_from_is_err_and}
 use Rattle.leveldb_mem.specs.Log.{bad, clean}
 use Rattle.leveldb_version.specs.Sets.RecoverSteps.{IsManifestAt, IsManifestRead}
+use Rattle.leveldb_version.proofs.ExitLemmas.{still_then, uncounted}
 use Rattle.leveldb_version.proofs.Sets.RecoverLemmas.{current_refused, manifest_read, named_unread, plan_made, plan_unread, plan_unusable, plan_used_up}
 use Rattle.leveldb_version.proofs.version_set.live_files.LiveFiles.plan.Goals as goal
 
@@ -74,3 +75,48 @@ returns-clause-ok g c =
     plan_made g.E.Env.models_disk (g.C.Cmp.cmp c.args.options.now.cmp) (g.C.Cmp.name c.args.options.now.cmp) c.args.options.now.reuse_manifest c.args.options.now.max_file_size c.args.self.now
     (g.E.Env.observed c.args.env.now) _ replay.records c.in_ok-left.is_clean read replay.replayed c.in_ok-check_usable.ensures.ok
     (rw (sym next) c.in_ok-next_file.ensures.ok) c.in_ok-next_file.ensures.fits c.is_reusable-reuses.ensures
+
+pub returns-in_err-path-clause-still : goal.returns-in_err-path-clause-still
+returns-in_err-path-clause-still g c = c.named_manifest.ensures.still
+
+pub returns-in_err-path-clause-locks : goal.returns-in_err-path-clause-locks
+returns-in_err-path-clause-locks g c = c.named_manifest.ensures.locks
+
+pub returns-in_err-path-clause-ok : goal.returns-in_err-path-clause-ok
+returns-in_err-path-clause-ok g c = IfOk-from_err c.from_residual.result _ c.from_residual.ensures.0
+
+pub returns-in_err-left-clause-still : goal.returns-in_err-left-clause-still
+returns-in_err-left-clause-still g c = λ modelled. still_then (c.named_manifest.ensures.still modelled) (c.read_manifest.ensures.still modelled)
+
+pub returns-in_err-left-clause-locks : goal.returns-in_err-left-clause-locks
+returns-in_err-left-clause-locks g c = λ modelled. c.read_manifest.ensures.locks modelled ∙ c.named_manifest.ensures.locks modelled
+
+pub returns-in_err-left-clause-ok : goal.returns-in_err-left-clause-ok
+returns-in_err-left-clause-ok g c = IfOk-from_err c.from_residual-in_err-left.result _ c.from_residual-in_err-left.ensures.0
+
+pub returns-in_err-check_usable-clause-still : goal.returns-in_err-check_usable-clause-still
+returns-in_err-check_usable-clause-still g c = λ modelled. still_then (c.named_manifest.ensures.still modelled) (c.read_manifest.ensures.still modelled)
+
+pub returns-in_err-check_usable-clause-locks : goal.returns-in_err-check_usable-clause-locks
+returns-in_err-check_usable-clause-locks g c = λ modelled. c.read_manifest.ensures.locks modelled ∙ c.named_manifest.ensures.locks modelled
+
+pub returns-in_err-check_usable-clause-ok : goal.returns-in_err-check_usable-clause-ok
+returns-in_err-check_usable-clause-ok g c = IfOk-from_err c.from_residual-in_err-check_usable.result _ c.from_residual-in_err-check_usable.ensures.0
+
+pub returns-in_err-next_file-clause-still : goal.returns-in_err-next_file-clause-still
+returns-in_err-next_file-clause-still g c = λ modelled. still_then (c.named_manifest.ensures.still modelled) (c.read_manifest.ensures.still modelled)
+
+pub returns-in_err-next_file-clause-locks : goal.returns-in_err-next_file-clause-locks
+returns-in_err-next_file-clause-locks g c = λ modelled. c.read_manifest.ensures.locks modelled ∙ c.named_manifest.ensures.locks modelled
+
+pub returns-in_err-next_file-clause-ok : goal.returns-in_err-next_file-clause-ok
+returns-in_err-next_file-clause-ok g c = IfOk-from_err c.from_residual-in_err-next_file.result _ c.from_residual-in_err-next_file.ensures.0
+
+pub returns-clause-still : goal.returns-clause-still
+returns-clause-still g c = λ modelled. still_then (c.named_manifest.ensures.still modelled) (c.read_manifest.ensures.still modelled)
+
+pub returns-clause-locks : goal.returns-clause-locks
+returns-clause-locks g c = λ modelled. c.read_manifest.ensures.locks modelled ∙ c.named_manifest.ensures.locks modelled
+
+pub returns-clause-cause : goal.returns-clause-cause
+returns-clause-cause g c = uncounted (c.in_ok-left.ensures.cause.ok ∙ c.in_ok-path.ensures.cause.ok)
