@@ -1,4 +1,4 @@
-use Rattle.std.proofs.Common.{◌++◌, ◌∷◌, [], ◌+◌, ◌∙◌, sym, ap, subst, refl, None, inl, inr, rules, arith}
+use Rattle.std.proofs.Common.{◌++◌, ◌∷◌, [], ◌+◌, ◌∙◌, sym, ap, subst, refl, None, inl, inr, arith}
 use Rattle.leveldb_env.proofs.FilterBlockLemmas.{keeps_keys}
 use Rattle.leveldb_table.specs.Block.{pairs_of}
 use Rattle.leveldb_table.specs.TableBuilder.{TableBuilt, stage}
@@ -140,7 +140,7 @@ returns-clause-ok g c =
             | inr closed ↦ absurd (room closed.0)
           ];
       last = rw (c.in_ok-add.ensures.ok.0.pairs) (last_pushed (pairs_of None mid.block.entries) (c.args.key.now, c.args.value.now));
-      count = search rules;
+      count = c.in_ok-self-inside.ensures.ok ∙ ap (λ n. n + 1) (ap (λ builder. builder.count) c.self-2.view_is ∙ c.make_room.ensures.still.0);
       counted = omega arith;
       unbroken = (unbroken, refl);
     })

@@ -1,4 +1,4 @@
-use Rattle.std.proofs.Common.{◌≡◌, Some, refl, sym, ◌∙◌, ap, inr}
+use Rattle.std.proofs.Common.{◌≡◌, Some, refl, sym, ◌∙◌, ap, inr, None}
 use Rattle.leveldb_base.specs.Types.{seek_position, pair_at, pair_of}
 use Rattle.leveldb_env.specs.contracts.compressor.CompressorListCompressors.TheImpl
 use Rattle.leveldb_table.specs.TableReaderBlocks.{IsKeyPosition}
@@ -7,10 +7,11 @@ use Rattle.leveldb_table.specs.TableBlock.{unnamed}
 use Rattle.leveldb_table.specs.BlockWalk.{pairs_over, position_over}
 use Rattle.leveldb_table.specs.TableReaderWalk.{inner_position}
 use Rattle.leveldb_table.proofs.TableReaderWalkLemmas.{block_lines, line_lacks, moves_enters, seek_none}
-use Rattle.leveldb_table.proofs.TableReaderMovesLemmas.{names_none, none_at, index_line, enters_ends, enters_own, seeks_none, seeks_lacking, line_by, sought_along}
+use Rattle.leveldb_table.proofs.TableReaderMovesLemmas.{names_none, none_at, index_line, enters_ends, enters_own, seeks_none, seeks_lacking, line_by, sought_along, names_one}
 use Rattle.leveldb_table.proofs.BlockCacheLemmas.{GainsBlocks-refl}
 use Rattle.leveldb_table.proofs.TableBlockLemmas.{KeepsDisk-refl}
 use Rattle.leveldb_table.proofs.TableReadsLemmas.{enters_memory}
+use Rattle.leveldb_table.specs.Block.{pairs_of}
 use Rattle.leveldb_table.proofs.table_reader.walk.TableCore.seek.Goals as goal
 
 pub returns-in_default : goal.returns-in_default
@@ -69,4 +70,13 @@ returns-in_err-seek g c =
       moves = moves_enters {Way = IsKeyPosition (g.C.Cmp.accepts c.args.reader.now.table.now.cmp) (g.C.Cmp.cmp c.args.reader.now.table.now.cmp) key} {to = λ pairs _. seek_position (g.C.Cmp.cmp c.args.reader.now.table.now.cmp) pairs key} {Part_step = ToKey g.C.Cmp key} old refl refl (λ parts position fit is_there. (fit, refl)) (λ bytes out sought. sought)
           (enters_memory old _ c.from_residual.result c.from_residual.ensures.1 c.in_err-seek.ensures.cause (KeepsDisk-refl g.E.Env c.args.reader.now.env.now) refl (GainsBlocks-refl c.args.reader.now.table.now.id _ c.args.reader.now.cache.now) (block_lines c.seek.new.self old.index block) (ap (λ z. z.cmp) block) (ap inner_position c.leave.ensures));
       same = record { table = refl; compressors = refl; env = refl; cache = refl };
+    }
+
+pub enter-requires : goal.enter-requires
+enter-requires g c =
+    record {
+      none = c.leave.ensures;
+      line = c.in_ok-seek.ensures.ok ∙ ap (λ block. seek_position (g.C.Cmp.cmp block.cmp) (pairs_of None block.entries) c.args.key.now) (sym c.in_ok-seek.ensures.block);
+      names = names_one c.in_ok-handle.handle (sym c.current.ensures ∙ ap pair_of c.in-Some.is) c.in_ok-handle.ensures.ok.1;
+      fits = c.in_ok-handle.ensures.ok.0;
     }

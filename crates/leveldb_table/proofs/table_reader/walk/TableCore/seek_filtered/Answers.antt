@@ -1,4 +1,4 @@
-use Rattle.std.proofs.Common.{◌≡◌, true, false, Some, refl, sym, ◌∙◌, ap, inr}
+use Rattle.std.proofs.Common.{◌≡◌, true, false, Some, refl, sym, ◌∙◌, ap, inr, None}
 use Rattle.leveldb_base.specs.Types.{pair_at, pair_of, seek_position}
 use Rattle.leveldb_env.specs.contracts.compressor.CompressorListCompressors.TheImpl
 use Rattle.leveldb_table.specs.TableReaderBlocks.{IsKeyPosition}
@@ -14,6 +14,7 @@ use Rattle.leveldb_table.proofs.TableReaderMovesLemmas.{names_one, names_none, n
 use Rattle.std.specs.Prelude.{is_some}
 use Rattle.leveldb_table.proofs.RefusalLemmas.{IfOk-refused}
 use Rattle.leveldb_table.proofs.TableReadsLemmas.{enters_memory}
+use Rattle.leveldb_table.specs.Block.{pairs_of}
 use Rattle.leveldb_table.proofs.table_reader.walk.TableCore.seek_filtered.Goals as goal
 
 pub returns-in_default-clause-enters : goal.returns-in_default-clause-enters
@@ -133,3 +134,12 @@ returns-in_err-enter-clause-there g c = IfOk-refused _ _ c.from_residual-in_err-
 
 pub returns-clause-there : goal.returns-clause-there
 returns-clause-there g c = c.valid.ensures
+
+pub enter-requires : goal.enter-requires
+enter-requires g c =
+    record {
+      none = c.leave.ensures;
+      line = c.in_ok-seek.ensures.ok ∙ ap (λ block. seek_position (g.C.Cmp.cmp block.cmp) (pairs_of None block.entries) c.args.key.now) (sym c.in_ok-seek.ensures.block);
+      names = names_one c.in_ok-handle.handle (sym c.current.ensures ∙ ap pair_of c.in-Some.is) c.in_ok-handle.ensures.ok.1;
+      fits = c.in_ok-handle.ensures.ok.0;
+    }
