@@ -1,3 +1,4 @@
+mod ExitLemmas
 pub mod Keeping
 pub mod Writing
 mod Reading

@@ -65,3 +65,17 @@ module _ {E F : Type 0} (env : EnvGhosts E F) (store : List ℕ) {path : List �
       → (IsThere env (opened mid file) → StopsWriting env Own (opened mid file) status to)
       → FailsToWrite {T = T} Other (env.failures from) (env.failures to) (Err status)
   none_cause so stops = fails_later cause.ok so (stops created_there).cause
+
+module _ {E F : Type 0} (env : EnvGhosts E F) (store : List ℕ) where
+  -- the file isn't created
+  pub uncreated_changes : {X : Type 0} {path : List ℕ} {from to : E} {result : Result X Status}
+      {number next later : ℕ}
+      → ChangesFiles {T = X} env.models_disk (emptied path) (BeforeOrAfter (emptied path))
+      (env.observed from) (env.observed to) result
+      → SameLocks env.models_disk (env.observed from) (env.observed to)
+      → env.failures from ≤ env.failures to → path ≡ table_path store number → number ≡ next
+      → number < 2 ^ 64 → later ≡ next + 1 → ChangesNewTables env store next later from to
+  uncreated_changes {from = from} {to = to} opening locks counts path_is number_is fits later_is =
+      new-one env store (omega (arith, number_is)) (omega (arith, number_is, later_is)) fits
+      (subst (λ p. ChangesOneFile env p from to) path_is
+      (opening_changes env opening locks counts))

@@ -3,6 +3,7 @@ use Rattle.std.proofs.Common.{◌≡◌, Ok, arith, length, refl, subst}
 use Rattle.leveldb_env.specs.Env.{bytes_of}
 use Rattle.leveldb_env.proofs.WholeFilesLemmas.{found_ok}
 use Rattle.leveldb_store.proofs.Logs.LogReplayLemmas.{has_read_none, sized_there}
+use Rattle.std.proofs.lemmas.Result.{IfOk-from_err}
 use Rattle.leveldb_store.proofs.log_replay.LogReplay.open_path.Goals as goal
 
 pub returns-clause-opens : goal.returns-clause-opens
@@ -21,3 +22,9 @@ returns-clause-opens g c =
           let file = sized_there (files c.deref-2.result.now) c.in_ok-size.size there size in
           (file.0, rw (← c.deref-2.ensures) file.1, file.2, (opened modelled).1));
     }
+
+pub returns-in_err-size-clause-opens : goal.returns-in_err-size-clause-opens
+returns-in_err-size-clause-opens g c = IfOk-from_err c.from_residual.result _ c.from_residual.ensures.0
+
+pub returns-in_err-file-clause-opens : goal.returns-in_err-file-clause-opens
+returns-in_err-file-clause-opens g c = IfOk-from_err c.from_residual-in_err-file.result _ c.from_residual-in_err-file.ensures.0

@@ -1,4 +1,4 @@
-use Rattle.std.proofs.Common.{None, ap, refl, sym}
+use Rattle.std.proofs.Common.{None, ap, refl, sym, inl}
 use Rattle.std.proofs.lemmas.Result.{err_from_is_err_and}
 use Rattle.leveldb_base.proofs.HistoryLemmas.{exact_order}
 use Rattle.leveldb_base.specs.Entries.{entry_of_pair}
@@ -75,3 +75,41 @@ returns-clause-takes g c = λ first read merged.
     taken_put _ g.E.Env exact refl merged pair are c.keep-2.result stayed
     (c.in_ok-put.ensures.puts first merged.tables merged.pairs (have_same _ g.E.Env exact refl merged pair (ap (λ v. v.unfinished) c.end_table.ensures, ap (λ v. v.done) c.end_table.ensures)))
     (ok_map c.keep-2.result c.keep-2.ensures.ok (λ kept. kept (entry_of_pair pair) parsed.sequence parsed.user)) c.keep-2.ensures.memory
+
+-- the version set
+
+pub returns-then-key-lt-TAG_LEN-clause-numbers : goal.returns-then-key-lt-TAG_LEN-clause-numbers
+returns-then-key-lt-TAG_LEN-clause-numbers g c = inl refl
+
+pub returns-then-key-lt-TAG_LEN-clause-version : goal.returns-then-key-lt-TAG_LEN-clause-version
+returns-then-key-lt-TAG_LEN-clause-version g c = refl
+
+pub returns-then-not-follows-clause-numbers : goal.returns-then-not-follows-clause-numbers
+returns-then-not-follows-clause-numbers g c = inl refl
+
+pub returns-then-not-follows-clause-version : goal.returns-then-not-follows-clause-version
+returns-then-not-follows-clause-version g c = refl
+
+pub returns-then-not-is_among_inputs-clause-numbers : goal.returns-then-not-is_among_inputs-clause-numbers
+returns-then-not-is_among_inputs-clause-numbers g c = inl refl
+
+pub returns-then-not-is_among_inputs-clause-version : goal.returns-then-not-is_among_inputs-clause-version
+returns-then-not-is_among_inputs-clause-version g c = refl
+
+pub returns-then-goes-clause-numbers : goal.returns-then-goes-clause-numbers
+returns-then-goes-clause-numbers g c = inl refl
+
+pub returns-then-goes-clause-version : goal.returns-then-goes-clause-version
+returns-then-goes-clause-version g c = refl
+
+pub returns-in_err-put-clause-numbers : goal.returns-in_err-put-clause-numbers
+returns-in_err-put-clause-numbers g c = c.in_err-put.ensures.numbers
+
+pub returns-in_err-put-clause-version : goal.returns-in_err-put-clause-version
+returns-in_err-put-clause-version g c = c.in_err-put.ensures.version
+
+pub returns-clause-numbers : goal.returns-clause-numbers
+returns-clause-numbers g c = c.in_ok-put.ensures.numbers
+
+pub returns-clause-version : goal.returns-clause-version
+returns-clause-version g c = c.in_ok-put.ensures.version

@@ -17,6 +17,7 @@ use Rattle.leveldb_store.specs.declared.store_walk.StoreWalk.{StoreWalk}
 use Rattle.leveldb_store.specs.declared.store_walk.StoreWalk.TheVariants.{Memory, Tables}
 use Rattle.leveldb_store.proofs.Keeping.CurrentVersionLemmas.{current_by}
 use Rattle.leveldb_store.proofs.open_store.OpenStore.children.Goals.{in-Some+in_ok-push-2, in_default}
+use Rattle.std.proofs.lemmas.Result.{IfOk-from_err}
 use Rattle.leveldb_store.proofs.open_store.OpenStore.children.Goals as goal
 
 -- a walk over a memtable of the store's order
@@ -121,3 +122,32 @@ returns-clause-ok g c =
           (one_more c.new-children.result.items c.match-self.children.items _ (ap (λ v. v.items) w.children-is ∙ c.in_ok-push.ensures.items) c.new-children.ensures.items)
           c.in_ok-push_tables.ensures.ok
     ])
+
+-- none are returned
+
+pub returns-in_err-push-clause-ok : goal.returns-in_err-push-clause-ok
+returns-in_err-push-clause-ok g c = IfOk-from_err c.from_residual.result _ c.from_residual.ensures.0
+
+pub returns-in_err-push-2-clause-ok : goal.returns-in_err-push-2-clause-ok
+returns-in_err-push-2-clause-ok g c = IfOk-from_err c.from_residual-in_err-push-2.result _ c.from_residual-in_err-push-2.ensures.0
+
+pub returns-in_err-new_iters-clause-ok : goal.returns-in_err-new_iters-clause-ok
+returns-in_err-new_iters-clause-ok g c = IfOk-from_err c.from_residual-in_err-new_iters.result _ c.from_residual-in_err-new_iters.ensures.0
+
+pub returns-in_err-push_tables-clause-ok : goal.returns-in_err-push_tables-clause-ok
+returns-in_err-push_tables-clause-ok g c = IfOk-from_err c.from_residual-in_err-push_tables.result _ c.from_residual-in_err-push_tables.ensures.0
+
+pub returns-in_err-push-clause-levels : goal.returns-in_err-push-clause-levels
+returns-in_err-push-clause-levels g c = rw (← c.self.view_is) c.self.invariant.10
+
+pub returns-in_err-push-2-clause-levels : goal.returns-in_err-push-2-clause-levels
+returns-in_err-push-2-clause-levels g c = rw (← c.self.view_is) c.self.invariant.10
+
+pub returns-in_err-new_iters-clause-levels : goal.returns-in_err-new_iters-clause-levels
+returns-in_err-new_iters-clause-levels g c = rw (← c.self.view_is) c.self.invariant.10
+
+pub returns-in_err-push_tables-clause-levels : goal.returns-in_err-push_tables-clause-levels
+returns-in_err-push_tables-clause-levels g c = rw (← c.self.view_is) c.self.invariant.10
+
+pub returns-clause-levels : goal.returns-clause-levels
+returns-clause-levels g c = rw (← c.self.view_is) c.self.invariant.10

@@ -1,5 +1,5 @@
-use Rattle.std.proofs.Common.{Ok}
-use Rattle.std.proofs.lemmas.Result.{err_from_is_err_and}
+use Rattle.std.proofs.Common.{◌∙◌, Ok, ap}
+use Rattle.std.proofs.lemmas.Result.{IfOk-from_err, err_from_is_err_and}
 use Rattle.leveldb_store.proofs.Keeping.KeptEntriesLemmas.{entries_switched, entries_then}
 use Rattle.leveldb_store.proofs.Keeping.LoggedEditsLemmas.{more_tables, two_tables}
 use Rattle.leveldb_store.proofs.Keeping.NoNewEntriesLemmas.{adds_none_in_order, steps_add_none, switch_adds_none}
@@ -147,3 +147,42 @@ returns-clause-tables g c =
       closes = closes_then g.E.Env old.set mid.set one.step.rest.store one.step.rest.numbers first.entries.live.live first.closes
           (closes_after g.E.Env mid.set switched.set done.switches.rest.store done.switches.rest.numbers done.switches.tables last.closes);
     }
+
+-- ---- what is in memory, and the sink of lines
+
+pub returns-in_err-compact_memtable-clause-tables_made : goal.returns-in_err-compact_memtable-clause-tables_made
+returns-in_err-compact_memtable-clause-tables_made g c =
+    IfOk-from_err c.from_residual.result _ c.from_residual.ensures.0
+
+pub returns-in_err-switch_log-clause-tables_made : goal.returns-in_err-switch_log-clause-tables_made
+returns-in_err-switch_log-clause-tables_made g c =
+    IfOk-from_err c.from_residual-in_err-switch_log.result _ c.from_residual-in_err-switch_log.ensures.0
+
+pub returns-in_err-compact_memtable-2-clause-tables_made : goal.returns-in_err-compact_memtable-2-clause-tables_made
+returns-in_err-compact_memtable-2-clause-tables_made g c =
+    IfOk-from_err c.from_residual-in_err-compact_memtable-2.result _ c.from_residual-in_err-compact_memtable-2.ensures.0
+
+pub returns-clause-tables_made : goal.returns-clause-tables_made
+returns-clause-tables_made g c =
+    let last = c.in_ok-compact_memtable-2.ensures.imm in (
+      ap (λ mem. mem.entries) last.mem ∙ c.in_ok-switch_log.ensures.switches.empty,
+      last.none_waits,
+    )
+
+pub returns-in_err-compact_memtable-clause-log : goal.returns-in_err-compact_memtable-clause-log
+returns-in_err-compact_memtable-clause-log g c = c.in_err-compact_memtable.ensures.log
+
+pub returns-then-len-eq0-clause-log : goal.returns-then-len-eq0-clause-log
+returns-then-len-eq0-clause-log g c = c.in_ok-compact_memtable.ensures.log
+
+pub returns-in_err-switch_log-clause-log : goal.returns-in_err-switch_log-clause-log
+returns-in_err-switch_log-clause-log g c = c.in_ok-compact_memtable.ensures.log
+
+pub returns-in_err-compact_memtable-2-clause-log : goal.returns-in_err-compact_memtable-2-clause-log
+returns-in_err-compact_memtable-2-clause-log g c = c.in_err-compact_memtable-2.ensures.log ∙ c.in_ok-compact_memtable.ensures.log
+
+pub returns-clause-log : goal.returns-clause-log
+returns-clause-log g c = c.in_ok-compact_memtable-2.ensures.log ∙ c.in_ok-compact_memtable.ensures.log
+
+pub switch_log-requires-clause-none_waits : goal.switch_log-requires-clause-none_waits
+switch_log-requires-clause-none_waits g c = c.in_ok-compact_memtable.ensures.imm.none_waits

@@ -89,3 +89,21 @@ returns-clause-keeps g c = record {
   kept = tt;
   breaks = λ unbroken. tt;
 }
+
+pub returns-in_default-clause-log : goal.returns-in_default-clause-log
+returns-in_default-clause-log g c = refl
+
+pub returns-in_err-compact-clause-log : goal.returns-in_err-compact-clause-log
+returns-in_err-compact-clause-log g c = refl
+
+pub returns-clause-log : goal.returns-clause-log
+returns-clause-log g c = c.tidy_up.ensures.log
+
+pub compact-requires-clause-usable : goal.compact-requires-clause-usable
+compact-requires-clause-usable g c = c.requires.usable
+
+pub compact-requires-clause-order : goal.compact-requires-clause-order
+compact-requires-clause-order g c = c.requires.order
+
+pub compact-requires-clause-none_waits : goal.compact-requires-clause-none_waits
+compact-requires-clause-none_waits g c = c.requires.none_waits

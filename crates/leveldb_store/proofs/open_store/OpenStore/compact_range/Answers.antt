@@ -92,6 +92,15 @@ loop-level-init g c =
 
 -- ---- one level after another
 
+pub compact_level-requires-clause-order : goal.compact_level-requires-clause-order
+compact_level-requires-clause-order g c = c.requires.order ∙ sym (ap g.C.Cmp.cmp c.loop-level.invariant.keeps.rest.cmp)
+
+pub compact_level-requires-clause-usable : goal.compact_level-requires-clause-usable
+compact_level-requires-clause-usable g c = c.loop-level.invariant.keeps.usable
+
+pub compact_level-requires-clause-none_waits : goal.compact_level-requires-clause-none_waits
+compact_level-requires-clause-none_waits g c = c.loop-level.invariant.tables_made.1
+
 pub returns-in_err-compact_level-clause-compacts : goal.returns-in_err-compact_level-clause-compacts
 returns-in_err-compact_level-clause-compacts g c =
     let p = err_from_is_err_and c.from_residual-in_err-compact_level.result c.from_residual-in_err-compact_level.ensures.1 in
@@ -153,3 +162,26 @@ returns-in_err-compact_level-clause-entries g c =
     memory_compacts g.E.Env _ c.args.self.now c.args.env.now c.loop-level.invariant.entries c.in_err-compact_level.ensures.compacts.memory
     (subst (λ cmp. CompactsInTurn g.E.Env cmp c.loop-level.self c.loop-level.env c.compact_level.new.self c.compact_level.new.env)
     (ap g.C.Cmp.cmp c.loop-level.invariant.keeps.rest.cmp ∙ sym c.requires.order) c.in_err-compact_level.ensures.in_turn)
+
+pub returns-clause-entries : goal.returns-clause-entries
+returns-clause-entries g c = c.loop-level.invariant.entries
+
+-- ---- the sink of lines
+
+pub returns-in_err-begin-clause-log : goal.returns-in_err-begin-clause-log
+returns-in_err-begin-clause-log g c = refl
+
+pub returns-in_err-end-clause-log : goal.returns-in_err-end-clause-log
+returns-in_err-end-clause-log g c = refl
+
+pub returns-in_err-compact_memtables-clause-log : goal.returns-in_err-compact_memtables-clause-log
+returns-in_err-compact_memtables-clause-log g c = c.in_err-compact_memtables.ensures.log
+
+pub returns-in_err-compact_by_reads-clause-log : goal.returns-in_err-compact_by_reads-clause-log
+returns-in_err-compact_by_reads-clause-log g c = c.in_err-compact_by_reads.ensures.log ∙ c.in_ok-compact_memtables.ensures.log
+
+pub returns-in_err-compact_level-clause-log : goal.returns-in_err-compact_level-clause-log
+returns-in_err-compact_level-clause-log g c = c.in_err-compact_level.ensures.log ∙ c.loop-level.invariant.log
+
+pub returns-clause-log : goal.returns-clause-log
+returns-clause-log g c = c.loop-level.invariant.log

@@ -1,5 +1,5 @@
 use Rattle.std.proofs.Common.{◌≡◌, ◌∙◌, None, Ok, Some, ap, false, inl, refl, sym, true}
-use Rattle.std.proofs.lemmas.Result.{IfOk-weaker, err_from_is_err_and}
+use Rattle.std.proofs.lemmas.Result.{IfOk-weaker, err_from_is_err_and, IfOk-from_err}
 use Rattle.leveldb_version.specs.Tables.TableCache.{files_at}
 use Rattle.leveldb_store.proofs.Keeping.KeptEntriesLemmas.{entries_same, entries_switched, entries_then}
 use Rattle.leveldb_store.proofs.Keeping.LoggedEditsLemmas.{no_tables, two_tables}
@@ -173,3 +173,26 @@ returns-clause-tables g c =
       closes = closes_then g.E.Env old.set mid.set one.step.rest.store one.step.rest.numbers first.entries.live.live first.closes
           (closes_after g.E.Env mid.set switched.set done.switches.rest.store done.switches.rest.numbers done.switches.tables last.closes);
     }
+
+-- what else is left
+
+pub returns-in_err-compact_memtable-clause-removes : goal.returns-in_err-compact_memtable-clause-removes
+returns-in_err-compact_memtable-clause-removes g c = IfOk-from_err c.from_residual.result _ c.from_residual.ensures.0
+
+pub returns-in_err-switch_log-clause-removes : goal.returns-in_err-switch_log-clause-removes
+returns-in_err-switch_log-clause-removes g c = IfOk-from_err c.from_residual-in_err-switch_log.result _ c.from_residual-in_err-switch_log.ensures.0
+
+pub returns-then-not-is_full-clause-log : goal.returns-then-not-is_full-clause-log
+returns-then-not-is_full-clause-log g c = refl
+
+pub returns-in_err-compact_memtable-clause-log : goal.returns-in_err-compact_memtable-clause-log
+returns-in_err-compact_memtable-clause-log g c = c.in_err-compact_memtable.ensures.log
+
+pub returns-in_err-switch_log-clause-log : goal.returns-in_err-switch_log-clause-log
+returns-in_err-switch_log-clause-log g c = c.in_ok-compact_memtable.ensures.log
+
+pub returns-clause-log : goal.returns-clause-log
+returns-clause-log g c = c.compact_memtable-2.ensures.log ∙ c.in_ok-compact_memtable.ensures.log
+
+pub switch_log-requires-clause-none_waits : goal.switch_log-requires-clause-none_waits
+switch_log-requires-clause-none_waits g c = c.in_ok-compact_memtable.ensures.imm.none_waits

@@ -1,4 +1,4 @@
-use Rattle.std.proofs.Common.{◌≡◌, ◌∙◌, ap, false, map, subst, sym, true}
+use Rattle.std.proofs.Common.{◌≡◌, ◌∙◌, ap, false, map, subst, sym, true, refl}
 use Rattle.std.specs.Prelude.{◌≢◌, IsTrue, string_bytes}
 use Rattle.std.proofs.lemmas.Result.{err_from_is_err_and}
 use Rattle.leveldb_env.proofs.EnvLemmas.{Run-call, Run-mono}
@@ -6,6 +6,7 @@ use Rattle.leveldb_env.specs.Env.{ListsChildren}
 use Rattle.leveldb_version.specs.Sets.VersionSetValue.{broken}
 use Rattle.leveldb_store.proofs.Keeping.OpenTablesLemmas.{no_removal, removal_then}
 use Rattle.leveldb_store.proofs.Keeping.RemoveLemmas.{RemovesObsolete-after, RemovesObsolete-kept, RemovesObsolete-unlisted, none_removed, removal_keeps, removing_after}
+use Rattle.leveldb_store.proofs.Writing.Level0TableLemmas.{keeps_nothing}
 use Rattle.leveldb_store.proofs.open_store.OpenStore.remove_obsolete.Goals as goal
 
 pub returns-in_err-names-clause-keeps : goal.returns-in_err-names-clause-keeps
@@ -63,3 +64,24 @@ returns-clause-closes g c =
     removal_then g.E.Env c.args.self.now.set
     (no_removal g.E.Env c.args.self.now.set c.args.env.now c.children.new.self c.args.tables.now (λ modelled. (Run-call modelled c.in_ok-names.ensures.does).has))
     c.remove_all.ensures.closes
+
+pub returns-then-is_broken-clause-closes : goal.returns-then-is_broken-clause-closes
+returns-then-is_broken-clause-closes g c = no_removal g.E.Env c.args.self.now.set c.args.env.now c.args.env.now c.args.tables.now (λ modelled. refl)
+
+pub returns-then-is_broken-clause-keeps : goal.returns-then-is_broken-clause-keeps
+returns-then-is_broken-clause-keeps g c = λ modelled meaning. keeps_nothing (g.C.Cmp.cmp c.args.self.now.cmp) meaning c.args.self.now (g.E.Env.observed c.args.env.now)
+
+pub returns-then-self-clause-closes : goal.returns-then-self-clause-closes
+returns-then-self-clause-closes g c = no_removal g.E.Env c.args.self.now.set c.args.env.now c.args.env.now c.args.tables.now (λ modelled. refl)
+
+pub returns-then-self-clause-keeps : goal.returns-then-self-clause-keeps
+returns-then-self-clause-keeps g c = λ modelled meaning. keeps_nothing (g.C.Cmp.cmp c.args.self.now.cmp) meaning c.args.self.now (g.E.Env.observed c.args.env.now)
+
+pub returns-in_err-live-clause-closes : goal.returns-in_err-live-clause-closes
+returns-in_err-live-clause-closes g c = no_removal g.E.Env c.args.self.now.set c.args.env.now c.args.env.now c.args.tables.now (λ modelled. refl)
+
+pub returns-in_err-live-clause-keeps : goal.returns-in_err-live-clause-keeps
+returns-in_err-live-clause-keeps g c = λ modelled meaning. keeps_nothing (g.C.Cmp.cmp c.args.self.now.cmp) meaning c.args.self.now (g.E.Env.observed c.args.env.now)
+
+pub returns-in_err-names-clause-closes : goal.returns-in_err-names-clause-closes
+returns-in_err-names-clause-closes g c = no_removal g.E.Env c.args.self.now.set c.args.env.now c.children.new.self c.args.tables.now (λ modelled. (Run-call modelled c.in_err-names.ensures.does).has)

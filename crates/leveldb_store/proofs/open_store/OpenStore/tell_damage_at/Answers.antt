@@ -1,7 +1,8 @@
-use Rattle.std.proofs.Common.{◌≡◌, false, refl, rules, true}
+use Rattle.std.proofs.Common.{◌≡◌, false, refl, rules, true, arith}
 use Rattle.leveldb_env.specs.Env.{in_folder}
 use Rattle.leveldb_store.proofs.Keeping.DamageLemmas.{not_aside}
 use Rattle.leveldb_store.proofs.Logs.WholeLogLemmas.{clean_undamaged}
+use Rattle.leveldb_table.proofs.TableBlockLemmas.{KeepsDisk-refl}
 use Rattle.leveldb_store.proofs.open_store.OpenStore.tell_damage_at.Goals as goal
 
 pub returns-then-not-is_left_aside-clause-damaged :
@@ -16,3 +17,42 @@ returns-then-ends_cleanly-clause-damaged g c = λ modelled it.
     let named : c.deref.result.now ≡ in_folder c.args.self.now.set.store c.args.name.now = search rules in
     absurd (clean_undamaged c.args.self.now.set (g.E.Env.observed c.args.env.now).disk.files
     c.args.name.now c.deref.result.now named (c.if-ends_cleanly.ensures.clean refl modelled) it)
+
+pub returns-in_default-clause-keeps : goal.returns-in_default-clause-keeps
+returns-in_default-clause-keeps g c = KeepsDisk-refl g.E.Env c.args.env.now
+
+pub returns-in_default-clause-later : goal.returns-in_default-clause-later
+returns-in_default-clause-later g c = omega arith
+
+pub returns-in_default-clause-log : goal.returns-in_default-clause-log
+returns-in_default-clause-log g c = refl
+
+pub returns-then-not-is_left_aside-clause-keeps : goal.returns-then-not-is_left_aside-clause-keeps
+returns-then-not-is_left_aside-clause-keeps g c = KeepsDisk-refl g.E.Env c.args.env.now
+
+pub returns-then-not-is_left_aside-clause-later : goal.returns-then-not-is_left_aside-clause-later
+returns-then-not-is_left_aside-clause-later g c = omega arith
+
+pub returns-then-not-is_left_aside-clause-log : goal.returns-then-not-is_left_aside-clause-log
+returns-then-not-is_left_aside-clause-log g c = refl
+
+pub returns-in_default-format-clause-damaged : goal.returns-in_default-format-clause-damaged
+returns-in_default-format-clause-damaged g c = λ modelled it. refl
+
+pub returns-in_default-format-clause-keeps : goal.returns-in_default-format-clause-keeps
+returns-in_default-format-clause-keeps g c = KeepsDisk-refl g.E.Env c.args.env.now
+
+pub returns-in_default-format-clause-later : goal.returns-in_default-format-clause-later
+returns-in_default-format-clause-later g c = omega arith
+
+pub returns-in_default-format-clause-log : goal.returns-in_default-format-clause-log
+returns-in_default-format-clause-log g c = refl
+
+pub returns-then-ends_cleanly-clause-keeps : goal.returns-then-ends_cleanly-clause-keeps
+returns-then-ends_cleanly-clause-keeps g c = c.if-ends_cleanly.ensures.keeps
+
+pub returns-then-ends_cleanly-clause-later : goal.returns-then-ends_cleanly-clause-later
+returns-then-ends_cleanly-clause-later g c = c.if-ends_cleanly.ensures.later
+
+pub returns-then-ends_cleanly-clause-log : goal.returns-then-ends_cleanly-clause-log
+returns-then-ends_cleanly-clause-log g c = refl

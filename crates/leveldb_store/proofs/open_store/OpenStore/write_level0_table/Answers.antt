@@ -6,7 +6,7 @@ use Rattle.leveldb_version.specs.Edits.VersionEdit.{new_file_of}
 use Rattle.leveldb_version.specs.Tables.TableCache.{files_at}
 use Rattle.leveldb_store.specs.Keeping.Written.{imm_entries}
 use Rattle.leveldb_store.specs.Keeping.WrittenFrom.{AddsNoEntry}
-use Rattle.std.proofs.lemmas.Result.{err_from_is_err_and}
+use Rattle.std.proofs.lemmas.Result.{err_from_is_err_and, IfOk-from_err}
 use Rattle.leveldb_base.specs.CmpLaws.{total_order}
 use Rattle.leveldb_version.specs.Sets.CurrentVersion.{VersionsValue}
 use Rattle.leveldb_files.specs.Edits.Edit.{Edit}
@@ -19,6 +19,7 @@ use Rattle.leveldb_store.proofs.Writing.AddedTableLemmas.{imm_added}
 use Rattle.leveldb_store.proofs.Writing.TableEntriesLemmas.{table_adds_none}
 use Rattle.leveldb_store.proofs.Writing.Level0TableLemmas.{in_use_of, keeps_done, keeps_failed, keeps_unmade, keeps_with_current, some_pairs, tables_logged, tables_unbuilt, tables_unlogged, unlogged_sound, imm_has_entries}
 use Rattle.leveldb_store.proofs.Keeping.SoundLemmas.{edit_goes_on, given_unbroken, goes_on_then, sound_ok, sound_unbroken, table_goes_on}
+use Rattle.leveldb_store.proofs.ExitLemmas.{none_ok}
 use Rattle.leveldb_store.proofs.open_store.OpenStore.write_level0_table.Goals as goal
 
 not_broken : (set : VersionSetValue) (b : Bool) → (set.manifest ≡ broken → b ≡ true) → b ≡ false → set.manifest ≢ broken
@@ -229,3 +230,29 @@ returns-clause-added g c =
     rw (← c.self.view_is)
     (imm_added g.E.Env _ old c.args.env.now c.build_imm_table.new.env c.level_for-level.result c.in_ok-file.file some c.build_imm_table.ensures.entries made
     c.in_ok-number.ensures.fits c.self.invariant.9 used.0 used.1 c.self.invariant.4 c.log_table.new.self.set c.log_table.new.env (logs used.0 used.1) _ (ap (λ (v : OpenStoreValue g.row.C.Denot). v.set) gone))
+
+-- a call that fails says nothing of entries
+
+pub returns-then-is_broken-clause-none_new : goal.returns-then-is_broken-clause-none_new
+returns-then-is_broken-clause-none_new g c = none_ok _ _ c.err.result c.err.ensures.code
+
+pub returns-then-is_broken-clause-added : goal.returns-then-is_broken-clause-added
+returns-then-is_broken-clause-added g c = none_ok _ _ c.err.result c.err.ensures.code
+
+pub returns-in_err-number-clause-none_new : goal.returns-in_err-number-clause-none_new
+returns-in_err-number-clause-none_new g c = IfOk-from_err c.from_residual.result _ c.from_residual.ensures.0
+
+pub returns-in_err-number-clause-added : goal.returns-in_err-number-clause-added
+returns-in_err-number-clause-added g c = IfOk-from_err c.from_residual.result _ c.from_residual.ensures.0
+
+pub returns-in_err-file-clause-none_new : goal.returns-in_err-file-clause-none_new
+returns-in_err-file-clause-none_new g c = IfOk-from_err c.from_residual-in_err-file.result _ c.from_residual-in_err-file.ensures.0
+
+pub returns-in_err-file-clause-added : goal.returns-in_err-file-clause-added
+returns-in_err-file-clause-added g c = IfOk-from_err c.from_residual-in_err-file.result _ c.from_residual-in_err-file.ensures.0
+
+pub returns-in_err-log_table-clause-none_new : goal.returns-in_err-log_table-clause-none_new
+returns-in_err-log_table-clause-none_new g c = IfOk-from_err c.from_residual-in_err-log_table.result _ c.from_residual-in_err-log_table.ensures.0
+
+pub returns-in_err-log_table-clause-added : goal.returns-in_err-log_table-clause-added
+returns-in_err-log_table-clause-added g c = IfOk-from_err c.from_residual-in_err-log_table.result _ c.from_residual-in_err-log_table.ensures.0

@@ -1,12 +1,13 @@
 use Rattle.std.proofs.Common.{◌≡◌, ◌⊎◌, ◌∙◌, inl, inr, subst, sym, true, false}
 use Rattle.std.specs.Prelude.{Any, Contains, codes}
-use Rattle.std.proofs.lemmas.Result.{err_from_is_err_and}
+use Rattle.std.proofs.lemmas.Result.{err_from_is_err_and, IfOk-from_err}
 use Rattle.leveldb_env.specs.Env.{ListsChildren}
 use Rattle.leveldb_base.specs.declared.types.FileType.TheVariants.{Current, Log, Table}
 use Rattle.leveldb_store.specs.Openings.OpeningSteps.{HasTableOrLog}
 use Rattle.leveldb_store.specs.declared.opening.listing.ListedFile.{ListedFile}
 use Rattle.leveldb_store.proofs.Openings.ListingLemmas.{current_listed, entries_listed}
 use Rattle.leveldb_store.proofs.Openings.OpeningFindLemmas.{is_found, lacks_current, made, must_not_be, no_current, not_made, refused, unlisted}
+use Rattle.leveldb_store.proofs.ExitLemmas.{none_ok}
 use Rattle.leveldb_store.proofs.opening.find.find_store.Goals as goal
 
 pub returns-in_err-files-clause-finds : goal.returns-in_err-files-clause-finds
@@ -87,3 +88,20 @@ returns-then-has_current-clause-listed g c =
     let listed = c.in_ok-files.ensures.lists in
     let files = c.in_ok-files.files.items in
     (listed.0, (λ modelled. subst (λ at. ListsChildren at c.args.store.now listed.0) (sym ((c.list_files.ensures.still modelled).has)) (listed.1 modelled)), listed.2)
+
+-- what is listed
+
+pub returns-in_err-files-clause-listed : goal.returns-in_err-files-clause-listed
+returns-in_err-files-clause-listed g c = IfOk-from_err c.from_residual.result _ c.from_residual.ensures.0
+
+pub returns-then-options-clause-listed : goal.returns-then-options-clause-listed
+returns-then-options-clause-listed g c = none_ok _ _ c.err.result c.err.ensures.code
+
+pub returns-then-has_table_or_log-clause-listed : goal.returns-then-has_table_or_log-clause-listed
+returns-then-has_table_or_log-clause-listed g c = none_ok _ _ c.err-then-has_table_or_log.result c.err-then-has_table_or_log.ensures.code
+
+pub returns-then-not-options-clause-listed : goal.returns-then-not-options-clause-listed
+returns-then-not-options-clause-listed g c = none_ok _ _ c.err-then-not-options.result c.err-then-not-options.ensures.code
+
+pub returns-in_err-make_store-clause-listed : goal.returns-in_err-make_store-clause-listed
+returns-in_err-make_store-clause-listed g c = IfOk-from_err c.from_residual-in_err-make_store.result _ c.from_residual-in_err-make_store.ensures.0
