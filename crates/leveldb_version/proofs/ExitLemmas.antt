@@ -1,7 +1,7 @@
 -- The exits of a `?`: what a clause says of the error that is passed on.
 use Rattle.std.proofs.Common.{◌≡◌, ◌∙◌, ℕ, Bool, arith, inl, refl, sym, subst}
 use Rattle.std.proofs.lemmas.Bool.{true≢false}
-use Rattle.std.specs.Prelude.{Err, IfErr, IsErr, Ok, OnErr, Result}
+use Rattle.std.specs.Prelude.{Err, IfErr, IsErr, Ok, Result}
 use Rattle.std.specs.Result.{IsErrAnd}
 use Rattle.leveldb_base.specs.declared.error.Status.{Status}
 use Rattle.leveldb_env.proofs.EnvLemmas.{ChangesFiles-refused, Run-trans, begun}
@@ -17,11 +17,6 @@ module _ {T E : Type 0} (P : E → Type 0) where
   pub cause_passed : (r : Result T E) (status : E) → IsErrAnd r (λ it. it ≡ status) → P status → IfErr r P
   cause_passed (Ok value) status e p = absurd e
   cause_passed (Err it) status e p = subst P (sym e) p
-
--- what an error leaves is so
-pub unchanged : {T E P : Type 0} (result : Result T E) → P → OnErr result P
-unchanged (Ok value) so = tt
-unchanged (Err status) so = so
 
 -- ---- calls of an environment that end before the first
 

@@ -1,6 +1,5 @@
 use Rattle.std.proofs.Common.{◌≡◌, ◌∙◌, ◌++◌, List, ap, map, ℕ}
 use Rattle.std.specs.Borrow.{Bor}
-use Rattle.std.proofs.lemmas.Result.{IfOk-from_err}
 use Rattle.leveldb_base.specs.declared.types.FileMetaData.{FileMetaData}
 use Rattle.leveldb_version.proofs.Compactions.CompactionCallLemmas.{copies_made}
 use Rattle.leveldb_files.proofs.Levels.OverlapLemmas.{if_ok_more}
@@ -8,26 +7,7 @@ use Rattle.leveldb_version.specs.Compactions.Inputs.{input_files}
 use Rattle.leveldb_version.specs.Versions.Version.{borrowed_files}
 use Rattle.leveldb_files.specs.Edits.Edit.{NewFile}
 use Rattle.leveldb_version.specs.Edits.VersionEdit.{new_file_of}
-use Rattle.leveldb_version.proofs.ExitLemmas.{cause_passed}
 use Rattle.leveldb_version.proofs.compaction.version_of.Goals as goal
-
-pub returns-in_err-push_copies : goal.returns-in_err-push_copies
-returns-in_err-push_copies g c =
-    let exit = c.from_residual in
-    record {
-      files = IfOk-from_err exit.result _ exit.ensures.0;
-      cmp = IfOk-from_err exit.result _ exit.ensures.0;
-      memory = cause_passed _ exit.result _ exit.ensures.1 c.in_err-push_copies.ensures.memory;
-    }
-
-pub returns-in_err-push_copies-2 : goal.returns-in_err-push_copies-2
-returns-in_err-push_copies-2 g c =
-    let exit = c.from_residual-in_err-push_copies-2 in
-    record {
-      files = IfOk-from_err exit.result _ exit.ensures.0;
-      cmp = IfOk-from_err exit.result _ exit.ensures.0;
-      memory = cause_passed _ exit.result _ exit.ensures.1 c.in_err-push_copies-2.ensures.memory;
-    }
 
 pub returns-clause-files : goal.returns-clause-files
 returns-clause-files g c =

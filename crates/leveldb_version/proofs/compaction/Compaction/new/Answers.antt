@@ -1,43 +1,11 @@
 use Rattle.std.proofs.Common.{◌≡◌, ◌∙◌, refl, subst, sym}
-use Rattle.std.proofs.lemmas.Result.{IfOk-from_err}
 use Rattle.leveldb_version.specs.Compactions.Compaction.{MayCompact}
 use Rattle.leveldb_version.specs.Compactions.CompactionEdit.{SetsPointer}
 use Rattle.leveldb_version.specs.Compactions.Inputs.{MayTake, input_files}
 use Rattle.leveldb_version.specs.Versions.Version.{VersionValue, new_files_of}
 use Rattle.leveldb_version.specs.Edits.VersionEdit.{edit_of}
 use Rattle.leveldb_version.proofs.Compactions.CompactionCallLemmas.{may_in_any_order, pointer_in_any_order}
-use Rattle.leveldb_version.proofs.ExitLemmas.{cause_passed}
 use Rattle.leveldb_version.proofs.compaction.Compaction.new.Goals as goal
-
-pub returns-in_err-edit : goal.returns-in_err-edit
-returns-in_err-edit g c =
-    let exit = c.from_residual in
-    record {
-      ok = IfOk-from_err exit.result _ exit.ensures.0;
-      level = IfOk-from_err exit.result _ exit.ensures.0;
-      inputs = IfOk-from_err exit.result _ exit.ensures.0;
-      memory = cause_passed _ exit.result _ exit.ensures.1 c.in_err-edit.ensures.memory;
-    }
-
-pub returns-in_err-inputs : goal.returns-in_err-inputs
-returns-in_err-inputs g c =
-    let exit = c.from_residual-in_err-inputs in
-    record {
-      ok = IfOk-from_err exit.result _ exit.ensures.0;
-      level = IfOk-from_err exit.result _ exit.ensures.0;
-      inputs = IfOk-from_err exit.result _ exit.ensures.0;
-      memory = cause_passed _ exit.result _ exit.ensures.1 c.in_err-inputs.ensures.memory;
-    }
-
-pub returns-in_err-version : goal.returns-in_err-version
-returns-in_err-version g c =
-    let exit = c.from_residual-in_err-version in
-    record {
-      ok = IfOk-from_err exit.result _ exit.ensures.0;
-      level = IfOk-from_err exit.result _ exit.ensures.0;
-      inputs = IfOk-from_err exit.result _ exit.ensures.0;
-      memory = cause_passed _ exit.result _ exit.ensures.1 c.in_err-version.ensures.memory;
-    }
 
 pub invariant_of-result : goal.invariant_of-result
 invariant_of-result g c =

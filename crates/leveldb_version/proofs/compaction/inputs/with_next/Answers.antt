@@ -1,6 +1,5 @@
 use Rattle.std.proofs.Common.{◌≡◌, ◌∙◌, ◌+◌, List, ap, subst, ℕ}
 use Rattle.std.specs.Borrow.{Bor}
-use Rattle.std.proofs.lemmas.Result.{IfOk-from_err}
 use Rattle.leveldb_base.specs.KeyTypes.{user_part}
 use Rattle.leveldb_base.specs.declared.types.FileMetaData.{FileMetaData}
 use Rattle.leveldb_version.proofs.Compactions.InputsLemmas.{taken_with_next}
@@ -8,18 +7,7 @@ use Rattle.leveldb_version.specs.Compactions.Compaction.{closed_range}
 use Rattle.leveldb_version.specs.Compactions.Inputs.{AreKeyEnds}
 use Rattle.leveldb_files.specs.Levels.Overlap.{overlapping}
 use Rattle.leveldb_version.specs.Versions.Version.{borrowed_files, new_files_of}
-use Rattle.leveldb_version.proofs.ExitLemmas.{cause_passed}
 use Rattle.leveldb_version.proofs.compaction.inputs.with_next.Goals as goal
-
-pub returns-in_err-of_next : goal.returns-in_err-of_next
-returns-in_err-of_next g c =
-    let exit = c.from_residual in
-    record {
-      may = IfOk-from_err exit.result _ exit.ensures.0;
-      same = IfOk-from_err exit.result _ exit.ensures.0;
-      none = IfOk-from_err exit.result _ exit.ensures.0;
-      memory = cause_passed _ exit.result _ exit.ensures.1 c.in_err-of_next.ensures.memory;
-    }
 
 pub returns-clause-may : goal.returns-clause-may
 returns-clause-may g c =

@@ -1,7 +1,6 @@
 use Rattle.std.proofs.Common.{◌≡◌, ◌∙◌, ◌++◌, ◌∷◌, List, [], ap, subst, sym, ℕ}
 use Rattle.std.specs.Borrow.{Bor}
 use Rattle.std.specs.Prelude.{Contains}
-use Rattle.std.proofs.lemmas.Result.{IfOk-from_err}
 use Rattle.leveldb_base.specs.CmpLaws.{total_order}
 use Rattle.leveldb_base.specs.KeyTypes.{user_part}
 use Rattle.leveldb_base.specs.declared.types.FileMetaData.{FileMetaData}
@@ -14,17 +13,7 @@ use Rattle.leveldb_version.specs.Compactions.Compaction.{closed_range}
 use Rattle.leveldb_files.specs.Levels.Summary.{files_of_level}
 use Rattle.leveldb_version.specs.Versions.Version.{borrowed_files, new_files_of}
 use Rattle.leveldb_version.specs.Edits.VersionEdit.{new_file_of}
-use Rattle.leveldb_version.proofs.ExitLemmas.{cause_is}
 use Rattle.leveldb_version.proofs.compaction.pick.chosen_with.Goals as goal
-
-pub returns-in_err-push : goal.returns-in_err-push
-returns-in_err-push g c =
-    let exit = c.from_residual in
-    record {
-      chosen = IfOk-from_err exit.result _ exit.ensures.0;
-      file = IfOk-from_err exit.result _ exit.ensures.0;
-      memory = cause_is _ exit.result exit.ensures.1;
-    }
 
 pub returns-then-file-eq0-clause-file : goal.returns-then-file-eq0-clause-file
 returns-then-file-eq0-clause-file g c =

@@ -2,46 +2,11 @@ use Rattle.std.proofs.Common.{◌≡◌, Option, Vec, ap, subst, ℕ}
 use Rattle.std.specs.Borrow.{Bor}
 use Rattle.std.specs.Global.{Global}
 use Rattle.std.specs.Prelude.{IfSome}
-use Rattle.std.proofs.lemmas.Result.{IfOk-from_err}
 use Rattle.leveldb_base.specs.declared.types.FileMetaData.{FileMetaData}
 use Rattle.leveldb_version.proofs.Compactions.CompactionCallLemmas.{kept_through}
 use Rattle.leveldb_version.specs.Versions.Version.{borrowed_files, new_files_of}
 use Rattle.leveldb_version.specs.declared.compaction.inputs.Inputs.{Inputs}
-use Rattle.leveldb_version.proofs.ExitLemmas.{cause_passed}
 use Rattle.leveldb_version.proofs.compaction.pick.compaction_of.Goals as goal
-
-pub returns-in_err-begun : goal.returns-in_err-begun
-returns-in_err-begun g c =
-    let exit = c.from_residual in
-    record {
-      each = IfOk-from_err exit.result _ exit.ensures.0;
-      level = IfOk-from_err exit.result _ exit.ensures.0;
-      keeps = λ ordered. IfOk-from_err exit.result _ exit.ensures.0;
-      none = IfOk-from_err exit.result _ exit.ensures.0;
-      memory = cause_passed _ exit.result _ exit.ensures.1 c.in_err-begun.ensures.memory;
-    }
-
-pub returns-in_err-inputs : goal.returns-in_err-inputs
-returns-in_err-inputs g c =
-    let exit = c.from_residual-in_err-inputs in
-    record {
-      each = IfOk-from_err exit.result _ exit.ensures.0;
-      level = IfOk-from_err exit.result _ exit.ensures.0;
-      keeps = λ ordered. IfOk-from_err exit.result _ exit.ensures.0;
-      none = IfOk-from_err exit.result _ exit.ensures.0;
-      memory = cause_passed _ exit.result _ exit.ensures.1 c.in_err-inputs.ensures.memory;
-    }
-
-pub returns-in_err-compaction : goal.returns-in_err-compaction
-returns-in_err-compaction g c =
-    let exit = c.from_residual-in_err-compaction in
-    record {
-      each = IfOk-from_err exit.result _ exit.ensures.0;
-      level = IfOk-from_err exit.result _ exit.ensures.0;
-      keeps = λ ordered. IfOk-from_err exit.result _ exit.ensures.0;
-      none = IfOk-from_err exit.result _ exit.ensures.0;
-      memory = cause_passed _ exit.result _ exit.ensures.1 c.in_err-compaction.ensures.memory;
-    }
 
 pub returns-clause-keeps : goal.returns-clause-keeps
 returns-clause-keeps g c = λ ordered file d.

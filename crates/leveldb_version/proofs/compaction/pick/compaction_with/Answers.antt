@@ -1,16 +1,6 @@
-use Rattle.std.proofs.lemmas.Result.{IfOk-from_err}
 use Rattle.leveldb_version.specs.Edits.VersionEdit.{new_file_of}
 use Rattle.leveldb_version.proofs.Compactions.PickingLemmas.{of_file}
-use Rattle.leveldb_version.proofs.ExitLemmas.{cause_passed}
 use Rattle.leveldb_version.proofs.compaction.pick.compaction_with.Goals as goal
-
-pub returns-in_err-chosen : goal.returns-in_err-chosen
-returns-in_err-chosen g c =
-    let exit = c.from_residual in
-    record {
-      ok = IfOk-from_err exit.result _ exit.ensures.0;
-      memory = cause_passed _ exit.result _ exit.ensures.1 c.in_err-chosen.ensures.memory;
-    }
 
 pub returns-clause-ok : goal.returns-clause-ok
 returns-clause-ok g c =

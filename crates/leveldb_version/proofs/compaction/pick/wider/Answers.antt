@@ -3,7 +3,6 @@ use Rattle.std.proofs.lemmas.List.Elements.{Contains-append_left}
 use Rattle.std.specs.Borrow.{Bor}
 use Rattle.std.specs.Global.{Global}
 use Rattle.std.specs.Prelude.{Contains}
-use Rattle.std.proofs.lemmas.Result.{IfOk-from_err}
 use Rattle.leveldb_base.specs.CmpLaws.{total_order}
 use Rattle.leveldb_base.specs.declared.types.FileMetaData.{FileMetaData}
 use Rattle.leveldb_files.proofs.Levels.OverlapLemmas.{if_ok_more}
@@ -11,17 +10,7 @@ use Rattle.leveldb_version.proofs.Compactions.InputsLemmas.{within_left}
 use Rattle.leveldb_version.proofs.Compactions.PickingLemmas.{if_some_more, seen_is_input}
 use Rattle.leveldb_version.specs.Compactions.Inputs.{AreWithin, input_files}
 use Rattle.leveldb_version.specs.Versions.Version.{borrowed_files, new_files_of}
-use Rattle.leveldb_version.proofs.ExitLemmas.{cause_passed}
 use Rattle.leveldb_version.proofs.compaction.pick.wider.Goals as goal
-
-pub returns-in_err-chosen : goal.returns-in_err-chosen
-returns-in_err-chosen g c =
-    let exit = c.from_residual in
-    record {
-      may = IfOk-from_err exit.result _ exit.ensures.0;
-      keeps = λ ordered. IfOk-from_err exit.result _ exit.ensures.0;
-      memory = cause_passed _ exit.result _ exit.ensures.1 c.in_err-chosen.ensures.memory;
-    }
 
 pub returns-clause-keeps : goal.returns-clause-keeps
 returns-clause-keeps g c = λ ordered.

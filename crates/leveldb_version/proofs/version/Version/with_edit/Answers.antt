@@ -1,37 +1,8 @@
 use Rattle.std.proofs.Common.{◌≡◌, ◌<◌, ◌^◌, rules, subst, sym, ℕ}
 use Rattle.std.proofs.lemmas.List.Sorted.{All-permutation}
-use Rattle.std.proofs.lemmas.Result.{IfOk-from_err}
 use Rattle.leveldb_base.specs.declared.types.FileMetaData.{FileMetaData}
 use Rattle.leveldb_version.specs.Versions.Version.{FilesFit}
-use Rattle.leveldb_version.proofs.ExitLemmas.{cause_is, cause_passed}
 use Rattle.leveldb_version.proofs.version.Version.with_edit.Goals as goal
-
-pub returns-in_err-files : goal.returns-in_err-files
-returns-in_err-files g c =
-    let exit = c.from_residual in
-    record {
-      ok = IfOk-from_err exit.result _ exit.ensures.0;
-      fit = IfOk-from_err exit.result _ exit.ensures.0;
-      memory = cause_is _ exit.result exit.ensures.1;
-    }
-
-pub returns-in_err-add_files : goal.returns-in_err-add_files
-returns-in_err-add_files g c =
-    let exit = c.from_residual-in_err-add_files in
-    record {
-      ok = IfOk-from_err exit.result _ exit.ensures.0;
-      fit = IfOk-from_err exit.result _ exit.ensures.0;
-      memory = cause_passed _ exit.result _ exit.ensures.1 c.in_err-add_files.ensures.memory;
-    }
-
-pub returns-in_err-sort_files : goal.returns-in_err-sort_files
-returns-in_err-sort_files g c =
-    let exit = c.from_residual-in_err-sort_files in
-    record {
-      ok = IfOk-from_err exit.result _ exit.ensures.0;
-      fit = IfOk-from_err exit.result _ exit.ensures.0;
-      memory = cause_passed _ exit.result _ exit.ensures.1 c.in_err-sort_files.ensures.memory;
-    }
 
 pub returns-clause-fit : goal.returns-clause-fit
 returns-clause-fit g c =

@@ -1,18 +1,8 @@
 use Rattle.std.proofs.Common.{◌≡◌, ◌+◌, ◌-◌, ◌∙◌, arith, ap, subst, sym, take}
-use Rattle.std.proofs.lemmas.Result.{IfOk-from_err}
 use Rattle.leveldb_version.specs.Walks.VersionIters.{AreWalksOf}
 use Rattle.leveldb_version.proofs.Walks.VersionItersLemmas.{deep_levels, levels_among, no_files, some_files, walks_empty, walks_level}
-use Rattle.leveldb_version.proofs.ExitLemmas.{cause_is}
 use Rattle.leveldb_version.proofs.version.iters.push_levels.Goals as goal
 use Rattle.leveldb_version.proofs.version.iters.push_levels.Goals.{then-not-is_empty+in_ok-push, else-not-is_empty}
-
-pub returns-in_err-push : goal.returns-in_err-push
-returns-in_err-push g c =
-    let exit = c.from_residual in
-    record {
-      ok = IfOk-from_err exit.result _ exit.ensures.0;
-      memory = cause_is _ exit.result exit.ensures.1;
-    }
 
 pub loop-level-preserved : goal.loop-level-preserved
 loop-level-preserved g c =

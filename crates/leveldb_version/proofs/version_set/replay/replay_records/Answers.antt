@@ -1,14 +1,8 @@
 use Rattle.std.proofs.Common.{ap, arith}
-use Rattle.std.proofs.lemmas.Result.{err_from_is_err_and, IfOk-from_err}
+use Rattle.std.proofs.lemmas.Result.{err_from_is_err_and}
 use Rattle.leveldb_mem.specs.Log.Reader.{ReaderState}
 use Rattle.leveldb_version.proofs.Sets.ReplayFileLemmas.{replay_refused, replay_stopped, replay_too_long, replayed_clean, replayed_torn, replayed_wrong, replaying_more, replaying_none}
 use Rattle.leveldb_version.proofs.version_set.replay.replay_records.Goals as goal
-
-pub returns-in_err-next_record-clause-ok : goal.returns-in_err-next_record-clause-ok
-returns-in_err-next_record-clause-ok g c = IfOk-from_err c.from_residual.result _ c.from_residual.ensures.0
-
-pub returns-in_err-add_record-in-Record-clause-ok : goal.returns-in_err-add_record-in-Record-clause-ok
-returns-in_err-add_record-in-Record-clause-ok g c = IfOk-from_err c.from_residual-in_err-add_record-in-Record.result _ c.from_residual-in_err-add_record-in-Record.ensures.0
 
 pub loop-count-init : goal.loop-count-init
 loop-count-init g c = (replaying_none g.S.Source.gives c.args.source.now c.nothing-left.result _ c.new-core.result c.nothing-left.ensures c.new-files.ensures.none c.new-core.ensures, c.new-files.ensures.placed)

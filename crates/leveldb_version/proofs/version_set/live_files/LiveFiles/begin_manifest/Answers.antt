@@ -1,4 +1,4 @@
-use Rattle.std.proofs.Common.{◌≡◌, ◌∙◌, ◌∷◌, List, [], ℕ, ap, false, refl, rules, true}
+use Rattle.std.proofs.Common.{◌≡◌, ◌∙◌, ◌∷◌, List, [], ℕ, ap, false, refl, rules, sym, true}
 use Rattle.std.specs.Result.{is_err}
 use Rattle.leveldb_base.specs.Error.{IsOutOfMemory}
 use Rattle.leveldb_version.proofs.ExitLemmas.{cause_passed}
@@ -104,3 +104,12 @@ returns-in_err-made g c =
 
 pub returns-clause-locks : goal.returns-clause-locks
 returns-clause-locks g c = c.make_manifest-made.ensures.locks
+
+pub invariant_of-self : goal.invariant_of-self
+invariant_of-self g c = c.self.invariant
+
+pub make_manifest-made-requires : goal.make_manifest-made-requires
+make_manifest-made-requires g c = c.in_ok-path.ensures.ok ∙ ap (λ (store : List ℕ). manifest_path store c.self.inside.manifest_number) (c.deref.ensures ∙ sym c.deref-2.ensures)
+
+pub apply_reserved-requires : goal.apply_reserved-requires
+apply_reserved-requires g c = c.in_ok-reserve.ensures.room

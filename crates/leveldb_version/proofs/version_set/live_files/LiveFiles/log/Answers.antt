@@ -131,3 +131,9 @@ returns-clause-used g c = λ logged is manifest used.
       err = tt;
       cause = rw both.1 at c.in_ok-appended.ensures.cause;
     }
+
+pub invariant_of-self : goal.invariant_of-self
+invariant_of-self g c = c.self.invariant
+
+pub apply_reserved-requires : goal.apply_reserved-requires
+apply_reserved-requires g c = c.in_ok-reserve.ensures.room

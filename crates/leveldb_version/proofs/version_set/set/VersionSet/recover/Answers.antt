@@ -1,5 +1,5 @@
 use Rattle.std.proofs.Common.{◌∙◌, ℕ, Err, Ok, ap, map, refl, subst, sym}
-use Rattle.std.proofs.lemmas.Result.{err_from_is_err_and, IfOk-from_err}
+use Rattle.std.proofs.lemmas.Result.{err_from_is_err_and}
 use Rattle.leveldb_version.specs.Sets.CurrentVersion.{IsCurrent}
 use Rattle.leveldb_version.specs.Sets.Recover.{RecoverResult}
 use Rattle.leveldb_files.specs.Edits.Edit.{Edit}
@@ -8,15 +8,6 @@ use Rattle.leveldb_version.specs.Sets.VersionSetValue.{VersionSetValue}
 use Rattle.leveldb_version.proofs.Sets.CurrentVersionLemmas.{made_current, still_current, with_version}
 use Rattle.leveldb_version.proofs.Sets.RecoveredLemmas.{nothing_recovered, planned_then_out_of_memory}
 use Rattle.leveldb_version.proofs.version_set.set.VersionSet.recover.Goals as goal
-
-pub returns-in_err-plan-clause-cmp : goal.returns-in_err-plan-clause-cmp
-returns-in_err-plan-clause-cmp g c = IfOk-from_err c.from_residual.result _ c.from_residual.ensures.0
-
-pub returns-in_err-current-clause-cmp : goal.returns-in_err-current-clause-cmp
-returns-in_err-current-clause-cmp g c = IfOk-from_err c.from_residual-in_err-current.result _ c.from_residual-in_err-current.ensures.0
-
-pub returns-in_err-needs_new_manifest-clause-cmp : goal.returns-in_err-needs_new_manifest-clause-cmp
-returns-in_err-needs_new_manifest-clause-cmp g c = IfOk-from_err c.from_residual-in_err-needs_new_manifest.result _ c.from_residual-in_err-needs_new_manifest.ensures.0
 
 pub returns-in_err-plan-clause-recovers : goal.returns-in_err-plan-clause-recovers
 returns-in_err-plan-clause-recovers g c =
