@@ -20,21 +20,3 @@ returns-then-ne-clause-ok g c =
       ),
       refl,
     )
-
-pub invariant_of-self : goal.invariant_of-self
-invariant_of-self g c = record { small = c.args.self.now.small }
-
-pub invariant_of-self-in_default : goal.invariant_of-self-in_default
-invariant_of-self-in_default g c = record { small = c.args.self.now.small }
-
-pub invariant_of-self-then-sequence-self : goal.invariant_of-self-then-sequence-self
-invariant_of-self-then-sequence-self g c = record { small = c.args.self.now.small }
-
-pub invariant_of-self-then-ne : goal.invariant_of-self-then-ne
-invariant_of-self-then-ne g c = record { small = c.args.self.now.small }
-
-pub invariant_of-self-in-TypeDeletion : goal.invariant_of-self-in-TypeDeletion
-invariant_of-self-in-TypeDeletion g c = record { small = c.args.self.now.small }
-
-pub invariant_of-self-in-TypeValue : goal.invariant_of-self-in-TypeValue
-invariant_of-self-in-TypeValue g c = record { small = c.args.self.now.small }

@@ -15,12 +15,3 @@ returns-then-branch-clause-moves g c = step_back_passes g.M.Walk g.met.M.Walk.la
 
 pub returns-clause-moves : goal.returns-clause-moves
 returns-clause-moves g c = step_back_passes_last g.M.Walk g.met.M.Walk.laws _ _ _ c.read_backward.ensures.walk c.in_ok-now.ensures.ok c.in-Some.is c.in_ok-prev.ensures.moves c.in_ok-prev.ensures.valid _ c.if-branch.false c.then_some-self-2.ensures
-
-pub invariant_of-self : goal.invariant_of-self
-invariant_of-self g c = record { small = c.read_backward.new.self.small }
-
-pub invariant_of-self-then-branch : goal.invariant_of-self-then-branch
-invariant_of-self-then-branch g c = record { small = c.read_backward.new.self.small }
-
-pub invariant_of-self-2 : goal.invariant_of-self-2
-invariant_of-self-2 g c = record { small = c.read_backward.new.self.small }

@@ -19,9 +19,3 @@ returns-then-branch-clause-moves g c = step_passes g.M.Walk g.met.M.Walk.laws (_
 
 pub returns-else-branch-clause-moves : goal.returns-else-branch-clause-moves
 returns-else-branch-clause-moves g c = step_passes_last g.M.Walk g.met.M.Walk.laws (_, c.read_forward.new.self.saved_value.items) c.read_forward.ensures.walk c.in_ok-read_forward.ensures.ok c.in-Passed.is c.in_ok-advance.ensures.moves c.in_ok-advance.ensures.valid _ c.if-branch.false (c.read_forward.ensures.at ∙ c.requires)
-
-pub invariant_of-self : goal.invariant_of-self
-invariant_of-self g c = record { small = c.read_forward.new.self.small }
-
-pub invariant_of-self-2 : goal.invariant_of-self-2
-invariant_of-self-2 g c = record { small = c.read_forward.new.self.small }

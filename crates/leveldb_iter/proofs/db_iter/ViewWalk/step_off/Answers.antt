@@ -12,15 +12,3 @@ returns-in_ok-advance-in-Some-Forward-clause-moves g c = leaves_forward g.M.Walk
 pub returns-in_ok-advance-in-Some-Reverse-clause-moves : goal.returns-in_ok-advance-in-Some-Reverse-clause-moves
 returns-in_ok-advance-in-Some-Reverse-clause-moves g c = leaves_reverse g.M.Walk g.met.M.Walk.laws _ (_, c.args.self.now.saved_value.items) refl c.in_ok-advance-in-Some-Reverse.ensures.moves
     (search rules)
-
-pub invariant_of-self : goal.invariant_of-self
-invariant_of-self g c = record { small = c.args.self.now.small }
-
-pub invariant_of-self-in-Some-Forward : goal.invariant_of-self-in-Some-Forward
-invariant_of-self-in-Some-Forward g c = record { small = c.args.self.now.small }
-
-pub invariant_of-self-in-Some-Forward-2 : goal.invariant_of-self-in-Some-Forward-2
-invariant_of-self-in-Some-Forward-2 g c = record { small = c.save_key.new.self.small }
-
-pub invariant_of-self-in-Some-Reverse : goal.invariant_of-self-in-Some-Reverse
-invariant_of-self-in-Some-Reverse g c = record { small = c.args.self.now.small }

@@ -4,12 +4,3 @@ use Rattle.leveldb_iter.proofs.db_iter.ViewWalk.to_key.Goals as goal
 
 pub returns-clause-moves : goal.returns-clause-moves
 returns-clause-moves g c = key_sought g.M.Walk g.met.M.Walk.laws c.args.key.now _ c.args.self.now.small (search rules) c.seek.ensures.moves
-
-pub invariant_of-self : goal.invariant_of-self
-invariant_of-self g c = record { small = c.args.self.now.small }
-
-pub invariant_of-self-2 : goal.invariant_of-self-2
-invariant_of-self-2 g c = record { small = c.args.self.now.small }
-
-pub invariant_of-self-in-Break-branch-2 : goal.invariant_of-self-in-Break-branch-2
-invariant_of-self-in-Break-branch-2 g c = record { small = c.args.self.now.small }

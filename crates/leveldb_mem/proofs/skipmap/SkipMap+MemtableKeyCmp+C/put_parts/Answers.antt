@@ -120,28 +120,3 @@ returns-then-is_taken g c =
         c.append-5.ensures.bytes,
       );
     })
-
-pub append-requires : goal.append-requires
-append-requires g c =
-    let bytes = rw (← c.self.view_is) at c.requires.bytes in
-    omega (arith, bytes)
-
-pub append-requires-2 : goal.append-requires-2
-append-requires-2 g c =
-    let bytes = rw (← c.self.view_is) at c.requires.bytes in
-    omega (arith, bytes, c.append.ensures.bytes)
-
-pub append-requires-3 : goal.append-requires-3
-append-requires-3 g c =
-    let bytes = rw (← c.self.view_is) at c.requires.bytes in
-    omega (arith, bytes, c.append.ensures.bytes, c.append-2.ensures.bytes)
-
-pub append-requires-4 : goal.append-requires-4
-append-requires-4 g c =
-    let bytes = rw (← c.self.view_is) at c.requires.bytes in
-    omega (arith, bytes, c.append.ensures.bytes, c.append-2.ensures.bytes, c.append-3.ensures.bytes)
-
-pub append-requires-5 : goal.append-requires-5
-append-requires-5 g c =
-    let bytes = rw (← c.self.view_is) at c.requires.bytes in
-    omega (arith, bytes, c.append.ensures.bytes, c.append-2.ensures.bytes, c.append-3.ensures.bytes, c.append-4.ensures.bytes)

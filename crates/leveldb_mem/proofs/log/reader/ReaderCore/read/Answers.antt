@@ -1,4 +1,4 @@
-use Rattle.std.proofs.Common.{◌∙◌, ap, sym, length, Ok, arith}
+use Rattle.std.proofs.Common.{◌∙◌, ap, sym, length, arith}
 use Rattle.std.proofs.lemmas.List.{nil_from_length}
 use Rattle.std.proofs.lemmas.Result.{err_from_is_err_and}
 use Rattle.leveldb_mem.specs.Log.Reader.{wrong_checksum, torn}

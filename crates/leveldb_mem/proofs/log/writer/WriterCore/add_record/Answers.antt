@@ -1,4 +1,4 @@
-use Rattle.std.proofs.Common.{◌≢◌, [], ◌++◌, ◌+◌, ◌%◌, ◌<◌, ap, ◌∙◌, sym, length, subst, arith, rules}
+use Rattle.std.proofs.Common.{◌≢◌, [], ◌++◌, ◌+◌, ◌%◌, ◌<◌, ap, ◌∙◌, sym, length, subst, rules}
 use Rattle.std.proofs.lemmas.List.{nil_from_length}
 use Rattle.std.proofs.lemmas.Bool.{eqb-true}
 use Rattle.leveldb_mem.specs.Log.{framed_record}
@@ -24,9 +24,3 @@ returns-in-Ok g c =
       err = λ usable. tt;
       broken = λ broken. (let usable = c.in_ok-check_unbroken.ensures.ok in absurd (cc));
     }
-
-pub invariant_of-self-in-Ok : goal.invariant_of-self-in-Ok
-invariant_of-self-in-Ok g c = (c.self.invariant.0, omega (arith, c.self.invariant.1))
-
-pub invariant_of-self-in-Err : goal.invariant_of-self-in-Err
-invariant_of-self-in-Err g c = c.self.invariant
