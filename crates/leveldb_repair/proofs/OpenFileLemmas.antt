@@ -1,6 +1,6 @@
 -- Calls on the file at a path, whose name an error tells where it is missing.
 use Rattle.std.specs.Prelude.{IfOk, IfSome, IsErrAnd, IsSome, IsSomeAnd, IsTrue, OnOk}
-use Rattle.std.proofs.Common.{◌≡◌, ◌∙◌, ◌⊎◌, inl, inr, ⊎_elim, ℕ, true, false, List, length, Option, None, Some, Result, Ok, Err, ap, subst, sym}
+use Rattle.std.proofs.Common.{◌<◌, ◌^◌, ◌≡◌, ◌∙◌, ◌⊎◌, inl, inr, ⊎_elim, ℕ, true, false, List, length, Option, None, Some, Result, Ok, Err, ap, subst, sym}
 use Rattle.leveldb_base.specs.Error.{IsOutOfMemory}
 use Rattle.leveldb_base.specs.declared.error.Status.{Status}
 use Rattle.leveldb_base.specs.declared.error.StatusCode.TheVariants.{Corruption}
@@ -11,6 +11,7 @@ use Rattle.leveldb_env.specs.declared.env.Env.{Ghosts as EnvGhosts}
 use Rattle.leveldb_table.proofs.TableBlockLemmas.{KeepsDisk-call, KeepsDisk-trans, reads_ok, reads_refused, reads_then}
 use Rattle.leveldb_table.specs.TableBlock.{FailsFor, ReadsFile}
 use Rattle.leveldb_version.specs.Tables.TableCache.{files_at}
+use Rattle.leveldb_repair.specs.FoundTables.{SizesFile}
 use Rattle.leveldb_repair.specs.FoundWalkTable.{OpensFile}
 
 -- a file that is there has the size that is told
@@ -55,6 +56,23 @@ module _ {E F : Type 0} (env : EnvGhosts E F) (path : List ℕ) where
     kept_disk = KeepsDisk-call env looks.does looks.locks;
     cause = fails result (found_cause path answer result (λ none. none) looks.found looks.cause);
   }
+
+  -- its size is told, or isn't known
+  pub sizes : {from to : E} {answer : Result ℕ Status} (result : Result ℕ Status)
+      → Looks from to answer result
+      → IfOk answer (λ n. IsTrue env.models_disk → IfSome (files_at env from path) (λ f. n ≡ length (bytes_of f)))
+      → OnOk answer (IsTrue env.models_disk → IsSome (files_at env from path))
+      → IfOk result (λ n. n < 2 ^ 64) → SizesFile env path from result to
+  sizes {from} {answer = answer} (Ok size) looks has_size there fits =
+      let size_is : answer ≡ Ok size = found_ok path answer size looks.found in
+      record {
+        ok = λ modelled. sized_there (files_at env from path) size
+            (subst (λ r. OnOk r (IsTrue env.models_disk → IsSome (files_at env from path))) size_is there modelled)
+            (subst (λ r. IfOk r (λ n. IsTrue env.models_disk → IfSome (files_at env from path) (λ f. n ≡ length (bytes_of f)))) size_is has_size modelled);
+        fits = fits;
+        reads = looks_reads looks;
+      }
+  sizes (Err status) looks has_size there fits = record { ok = tt; fits = tt; reads = looks_reads looks }
 
   -- its size isn't known
   pub unsized : {from to : E} {answer : Result ℕ Status} {status : Status}
