@@ -1,3 +1,4 @@
+mod OpenFileLemmas
 mod OneMergeLemmas
 mod FoundLogsLemmas
 mod FindLogsLemmas

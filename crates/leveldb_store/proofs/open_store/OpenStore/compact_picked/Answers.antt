@@ -1,8 +1,10 @@
-use Rattle.std.proofs.Common.{◌∙◌, ap, refl, rules, subst, sym}
+use Rattle.std.proofs.Common.{◌≡◌, ◌∙◌, None, Some, ap, refl, rules, subst, sym}
 use Rattle.std.proofs.lemmas.Result.{err_from_is_err_and}
 use Rattle.leveldb_store.proofs.Compactions.CompactPickedLemmas.{compacted_once, compacted_tidied}
 use Rattle.leveldb_store.proofs.Compactions.CompactedLemmas.{compacts_then, nothing_compacted}
 use Rattle.leveldb_store.proofs.Compactions.CompactsOnceLemmas.{compacted_inputs, compacted_none, none_compacted}
+use Rattle.std.specs.Prelude.{IfSome}
+use Rattle.leveldb_store.specs.Compactions.Compact.{EndsByRemoval, LogsCompaction}
 use Rattle.leveldb_store.specs.Keeping.KeptEntries.{CompactsOnceAtMost}
 use Rattle.leveldb_store.specs.Keeping.OpenStore.{OpenStoreValue}
 use Rattle.leveldb_store.specs.Writing.Room.{TidiesUp}
@@ -49,17 +51,22 @@ returns-in_err-compact-clause-does g c =
     (record {
       logged = tt;
       removes = tt;
-      none = search rules;
+      none = λ none. let never : Some c.in-Some.compaction ≡ None = sym c.in-Some.is ∙ none in absurd (cc never);
       err = search rules;
     })
 
 pub returns-clause-does : goal.returns-clause-does
-returns-clause-does g c = record {
-  logged = search rules;
-  removes = search rules;
-  none = search rules;
-  err = tt;
-}
+returns-clause-does g c =
+    let old = c.args.self.now in
+    let new = c.compact.new.self in
+    let order = g.C.Cmp.cmp old.cmp in
+    let logged = subst (λ cmp. LogsCompaction cmp c.in-Some.compaction old new) c.requires.order c.in_ok-compact.ensures.compacts.logged.0 in
+    record {
+      logged = subst (λ picked. IfSome picked (λ it. LogsCompaction order it old new)) (sym c.in-Some.is) logged;
+      removes = subst (λ picked. IfSome picked (λ it. EndsByRemoval g.E.Env new c.tidy_up.new.env)) (sym c.in-Some.is) (c.tidy_up.result, (c.compact.new.env, c.tidy_up.ensures.removes));
+      none = λ none. let never : Some c.in-Some.compaction ≡ None = sym c.in-Some.is ∙ none in absurd (cc never);
+      err = tt;
+    }
 
 -- ---- what is lost
 

@@ -2,7 +2,8 @@ use Rattle.std.proofs.Common.{◌≡◌, false, refl, rules, true, arith}
 use Rattle.leveldb_env.specs.Env.{in_folder}
 use Rattle.leveldb_store.proofs.Keeping.DamageLemmas.{not_aside}
 use Rattle.leveldb_store.proofs.Logs.WholeLogLemmas.{clean_undamaged}
-use Rattle.leveldb_table.proofs.TableBlockLemmas.{KeepsDisk-refl}
+use Rattle.leveldb_table.proofs.TableBlockLemmas.{KeepsDisk-refl, KeepsDisk-trans}
+use Rattle.leveldb_env.proofs.EnvLemmas.{Run-call}
 use Rattle.leveldb_store.proofs.open_store.OpenStore.tell_damage_at.Goals as goal
 
 pub returns-then-not-is_left_aside-clause-damaged :
@@ -56,3 +57,36 @@ returns-then-ends_cleanly-clause-later g c = c.if-ends_cleanly.ensures.later
 
 pub returns-then-ends_cleanly-clause-log : goal.returns-then-ends_cleanly-clause-log
 returns-then-ends_cleanly-clause-log g c = refl
+
+pub returns-in_default-read_file-clause-damaged : goal.returns-in_default-read_file-clause-damaged
+returns-in_default-read_file-clause-damaged g c = λ modelled it. refl
+
+pub returns-in_default-read_file-clause-keeps : goal.returns-in_default-read_file-clause-keeps
+returns-in_default-read_file-clause-keeps g c = KeepsDisk-trans g.E.Env c.if-ends_cleanly.ensures.keeps (record { disk = λ modelled. Run-call modelled (c.read_file.ensures.does modelled); locks = c.read_file.ensures.locks })
+
+pub returns-in_default-read_file-clause-later : goal.returns-in_default-read_file-clause-later
+returns-in_default-read_file-clause-later g c = let first = c.if-ends_cleanly.ensures.later in let second = c.read_file.ensures.cause.later in omega (arith, first, second)
+
+pub returns-in_default-read_file-clause-log : goal.returns-in_default-read_file-clause-log
+returns-in_default-read_file-clause-log g c = refl
+
+pub returns-in_default-left_out-clause-keeps : goal.returns-in_default-left_out-clause-keeps
+returns-in_default-left_out-clause-keeps g c = KeepsDisk-trans g.E.Env c.if-ends_cleanly.ensures.keeps (record { disk = λ modelled. Run-call modelled (c.read_file.ensures.does modelled); locks = c.read_file.ensures.locks })
+
+pub returns-in_default-left_out-clause-later : goal.returns-in_default-left_out-clause-later
+returns-in_default-left_out-clause-later g c = let first = c.if-ends_cleanly.ensures.later in let second = c.read_file.ensures.cause.later in omega (arith, first, second)
+
+pub returns-in_default-left_out-clause-log : goal.returns-in_default-left_out-clause-log
+returns-in_default-left_out-clause-log g c = refl
+
+pub returns-clause-damaged : goal.returns-clause-damaged
+returns-clause-damaged g c = λ modelled it. refl
+
+pub returns-clause-keeps : goal.returns-clause-keeps
+returns-clause-keeps g c = KeepsDisk-trans g.E.Env c.if-ends_cleanly.ensures.keeps (record { disk = λ modelled. Run-call modelled (c.read_file.ensures.does modelled); locks = c.read_file.ensures.locks })
+
+pub returns-clause-later : goal.returns-clause-later
+returns-clause-later g c = let first = c.if-ends_cleanly.ensures.later in let second = c.read_file.ensures.cause.later in omega (arith, first, second)
+
+pub returns-clause-log : goal.returns-clause-log
+returns-clause-log g c = c.tell.ensures

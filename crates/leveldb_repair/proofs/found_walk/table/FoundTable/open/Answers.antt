@@ -1,7 +1,7 @@
 use Rattle.std.proofs.Common.{refl, subst, sym}
 use Rattle.leveldb_base.specs.CmpLaws.{total_order}
 use Rattle.leveldb_table.specs.TableReaderBlocks.{StartsOver}
-use Rattle.leveldb_repair.proofs.FoundWalkOpenLemmas.{found_opened, table_refused}
+use Rattle.leveldb_repair.proofs.FoundWalkOpenLemmas.{found_opened, table_refused, walk_out}
 use Rattle.leveldb_repair.proofs.FoundWalkTableLemmas.{internal_laws}
 use Rattle.leveldb_repair.proofs.found_walk.table.FoundTable.open.Goals as goal
 
@@ -11,6 +11,13 @@ returns-in_err-table g c =
     (internal_laws _ g.C.Cmp (λ c. refl) (λ c. refl) g.met.C.Cmp.preorder g.met.C.UserCmp.accepts_all)
     (λ c. refl) (λ c. total_order (g.met.C.Cmp.preorder c) (g.met.C.UserCmp.accepts_all c)) c.args.cmp c.args.file c.args.size c.args.env.now c.in_ok-blocks.blocks c.in_ok-blocks.ensures.ok
     c.open_no_filter.new.env c.open_no_filter.new.cache c.from_residual-in_err-table.result c.from_residual-in_err-table.ensures.1 c.in_err-table.ensures
+
+pub returns-in_err-new : goal.returns-in_err-new
+returns-in_err-new g c =
+    walk_out _ g.E.Env g.C.Cmp _
+    (internal_laws _ g.C.Cmp (λ c. refl) (λ c. refl) g.met.C.Cmp.preorder g.met.C.UserCmp.accepts_all)
+    (λ c. refl) (λ c. total_order (g.met.C.Cmp.preorder c) (g.met.C.UserCmp.accepts_all c)) c.args.cmp c.args.file c.args.size c.args.env.now c.in_ok-blocks.blocks c.in_ok-blocks.ensures.ok
+    c.open_no_filter.new.env c.open_no_filter.new.cache c.in_ok-table.table c.in_ok-table.ensures c.from_residual-in_err-new.result c.from_residual-in_err-new.ensures.1 c.in_err-new.ensures.memory
 
 pub returns : goal.returns
 returns g c =
