@@ -192,30 +192,38 @@ pub returns-in_err-reserve-clause-too_large : goal.returns-in_err-reserve-clause
 returns-in_err-reserve-clause-too_large g c =
     let fit = c.fits.ensures.0 c.if-not-fits.false in
     let here = fit.0 in
-    let small : length c.self.inside.buffer.items < 2 ^ 32 = omega (arith, here, c.len.ensures, c.self.inside.buffer.ok.0) in
-    (λ large. absurd (memory_not_large c.from_residual.result c.from_residual.ensures.1 large), λ large. absurd (entry_fits c.self.inside.built.0 _ _ _ c.self.inside.built.1.encoded small fit.1 fit.2
-    (subst (λ core. IsEntryTooLarge core.entries c.args.key.now c.args.value.now) (sym c.self.view_is) large)))
+    let small : length c.self.inside.buffer.items < 2 ^ 32 = omega (arith, here, c.len.ensures, c.self.inside.buffer.ok.0) in (
+      λ large. absurd (memory_not_large c.from_residual.result c.from_residual.ensures.1 large),
+      λ large. absurd (entry_fits c.self.inside.built.0 _ _ _ c.self.inside.built.1.encoded small fit.1 fit.2
+          (subst (λ core. IsEntryTooLarge core.entries c.args.key.now c.args.value.now) (sym c.self.view_is) large)),
+    )
 
 pub returns-in_err-reserve-2-clause-too_large : goal.returns-in_err-reserve-2-clause-too_large
 returns-in_err-reserve-2-clause-too_large g c =
     let fit = c.fits.ensures.0 c.if-not-fits.false in
     let here = fit.0 in
-    let small : length c.self.inside.buffer.items < 2 ^ 32 = omega (arith, here, c.len.ensures, c.self.inside.buffer.ok.0) in
-    (λ large. absurd (memory_not_large c.from_residual-in_err-reserve-2.result c.from_residual-in_err-reserve-2.ensures.1 large), λ large. absurd (entry_fits c.self.inside.built.0 _ _ _ c.self.inside.built.1.encoded small fit.1 fit.2
-    (subst (λ core. IsEntryTooLarge core.entries c.args.key.now c.args.value.now) (sym c.self.view_is) large)))
+    let small : length c.self.inside.buffer.items < 2 ^ 32 = omega (arith, here, c.len.ensures, c.self.inside.buffer.ok.0) in (
+      λ large. absurd (memory_not_large c.from_residual-in_err-reserve-2.result c.from_residual-in_err-reserve-2.ensures.1 large),
+      λ large. absurd (entry_fits c.self.inside.built.0 _ _ _ c.self.inside.built.1.encoded small fit.1 fit.2
+          (subst (λ core. IsEntryTooLarge core.entries c.args.key.now c.args.value.now) (sym c.self.view_is) large)),
+    )
 
 pub returns-in_err-reserve-3-clause-too_large : goal.returns-in_err-reserve-3-clause-too_large
 returns-in_err-reserve-3-clause-too_large g c =
     let fit = c.fits.ensures.0 c.if-not-fits.false in
     let here = fit.0 in
-    let small : length c.self.inside.buffer.items < 2 ^ 32 = omega (arith, here, c.len.ensures, c.self.inside.buffer.ok.0) in
-    (λ large. absurd (memory_not_large c.from_residual-in_err-reserve-3.result c.from_residual-in_err-reserve-3.ensures.1 large), λ large. absurd (entry_fits c.self.inside.built.0 _ _ _ c.self.inside.built.1.encoded small fit.1 fit.2
-    (subst (λ core. IsEntryTooLarge core.entries c.args.key.now c.args.value.now) (sym c.self.view_is) large)))
+    let small : length c.self.inside.buffer.items < 2 ^ 32 = omega (arith, here, c.len.ensures, c.self.inside.buffer.ok.0) in (
+      λ large. absurd (memory_not_large c.from_residual-in_err-reserve-3.result c.from_residual-in_err-reserve-3.ensures.1 large),
+      λ large. absurd (entry_fits c.self.inside.built.0 _ _ _ c.self.inside.built.1.encoded small fit.1 fit.2
+          (subst (λ core. IsEntryTooLarge core.entries c.args.key.now c.args.value.now) (sym c.self.view_is) large)),
+    )
 
 pub returns-clause-too_large : goal.returns-clause-too_large
 returns-clause-too_large g c =
     let fit = c.fits.ensures.0 c.if-not-fits.false in
     let here = fit.0 in
-    let small : length c.self.inside.buffer.items < 2 ^ 32 = omega (arith, here, c.len.ensures, c.self.inside.buffer.ok.0) in
-    (λ large. absurd large, λ large. absurd (entry_fits c.self.inside.built.0 _ _ _ c.self.inside.built.1.encoded small fit.1 fit.2
-    (subst (λ core. IsEntryTooLarge core.entries c.args.key.now c.args.value.now) (sym c.self.view_is) large)))
+    let small : length c.self.inside.buffer.items < 2 ^ 32 = omega (arith, here, c.len.ensures, c.self.inside.buffer.ok.0) in (
+      λ large. absurd large,
+      λ large. absurd (entry_fits c.self.inside.built.0 _ _ _ c.self.inside.built.1.encoded small fit.1 fit.2
+          (subst (λ core. IsEntryTooLarge core.entries c.args.key.now c.args.value.now) (sym c.self.view_is) large)),
+    )

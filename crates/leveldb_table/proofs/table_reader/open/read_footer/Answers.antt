@@ -1,4 +1,4 @@
-use Rattle.std.proofs.Common.{inr, refl, sym, ◌∙◌, arith, length}
+use Rattle.std.proofs.Common.{inr, refl, sym, ◌∙◌, arith}
 use Rattle.leveldb_table.proofs.FooterLemmas.{ends_at, ends_long, ends_with}
 use Rattle.leveldb_table.proofs.TableBlockLemmas.{KeepsDisk-refl, reads_own, reads_ok, reads_refused, reads_weaker}
 use Rattle.std.proofs.lemmas.Result.{IfOk-from_err}

@@ -1,4 +1,4 @@
-use Rattle.std.proofs.Common.{None, ap, subst, sym, refl, ◌≡◌, ◌∙◌, inl, inr}
+use Rattle.std.proofs.Common.{None, ap, subst, sym, refl, ◌≡◌, ◌∙◌, inl}
 use Rattle.std.specs.Prelude.{IfSome, MatchOption}
 use Rattle.leveldb_env.specs.Compressor.{Decodes}
 use Rattle.leveldb_env.specs.contracts.compressor.CompressorListCompressors.TheImpl

@@ -1,7 +1,7 @@
 use Rattle.leveldb_base.specs.declared.cmp.Cmp.{Ghosts as CmpGhosts}
 use Rattle.leveldb_env.specs.declared.env.Env.{Ghosts as EnvGhosts}
 use Rattle.leveldb_table.proofs.TableReaderMovesLemmas.{looks_up_err}
-use Rattle.leveldb_table.proofs.TableBlockLemmas.{reads_own, reads_refused, reads_ok}
+use Rattle.leveldb_table.proofs.TableBlockLemmas.{reads_own, reads_refused}
 use Rattle.std.proofs.Common.{inl, ◌∙◌, ◌≡◌, ap, sym, subst, ℕ, Bool, List, Option, Some, Result, Ok}
 use Rattle.leveldb_base.specs.Types.{Pair}
 use Rattle.leveldb_env.specs.Compressor.{Codings}
