@@ -180,6 +180,7 @@ module _ {parts : List Part} {line : Option ℕ} {pairs : List Pair} {position :
       } in
       subst (IsAtPairOrNone parts line pairs (Some k)) (sym (position_in (pairs_in parts) (n + 1) (within_in is_there))) is_there
 
+-- no data blocks have no pairs
 no_pairs : (parts : List Part) → length parts ≡ 0 → length (pairs_in parts) ≡ 0
 no_pairs [] e = refl
 no_pairs (part ∷ parts) e = absurd (omega (arith, e))

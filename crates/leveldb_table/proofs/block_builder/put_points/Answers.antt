@@ -1,7 +1,7 @@
-use Rattle.leveldb_table.proofs.RefusalLemmas.{IfErr-passed, IfErr-refused, OnOk-refused}
 use Rattle.std.proofs.Common.{◌+◌, ◌++◌, ◌∷◌, ◌∙◌, ap, append_assoc, arith, flat_map, length}
 use Rattle.std.proofs.lemmas.List.{take_all}
 use Rattle.leveldb_base.specs.Varint.{little}
+use Rattle.leveldb_table.proofs.RefusalLemmas.{IfErr-passed, IfErr-refused, OnOk-refused}
 use Rattle.leveldb_table.proofs.TableLemmas.{OnOk-with}
 use Rattle.leveldb_table.proofs.block_builder.put_points.Goals as goal
 

@@ -25,14 +25,17 @@ lost_damaged (Err error) cause = record {
   cause = ⊎_elim (λ excuse. inl (⊎_elim (λ memory. inl memory) (λ lost. inr (lost.2, (lost.0.code, lost.1))) excuse)) (λ counted. inr counted) cause.cause;
 }
 
+-- a file that is there
 some_is : (P : File → Type 0) (found : Option File) → IsSome found → IfSome found P → IsSomeAnd found P
 some_is P None some holds = cc
 some_is P (Some file) some holds = holds
 
+-- what is said of an Ok
 at_ok : {T Error P : Type 0} {value : T} (result : Result T Error) → result ≡ Ok value → OnOk result P → P
 at_ok (Ok value) is p = p
 at_ok (Err error) is p = cc
 
+-- the file at the path is missing, which is damage
 abbrev Missing : {E F : Type 0} → Ghosts E F → List ℕ → E → Status → Type 0
 Missing env path state status = (status.code ≡ Corruption) × (IsTrue env.models_disk → (env.observed state).disk.files path ≡ None)
 
@@ -48,6 +51,7 @@ module _ {E F : Type 0} (env : Ghosts E F) {path : List ℕ} {old new : E} where
     cause = lost_damaged result (found_cause path answer result (λ none. none) found cause);
   }
 
+  -- a file that is not opened
   opens_none : {T : Type 0} {status : Status} (result : Result (F × ℕ) Status) → IsErrAnd result (λ other. other ≡ status)
       → ReadsFile env {T = T} (Missing env path old) old new (Err status) → OpensJudged env path old result new
   opens_none (Ok opened) refused reads = absurd refused

@@ -1,7 +1,7 @@
 use Rattle.std.proofs.Common.{inl, inr, subst, sym}
 use Rattle.std.proofs.lemmas.Result.{IfOk-from_err}
-use Rattle.leveldb_table.proofs.RefusalLemmas.{IfErr-passed, IfErr-refused}
 use Rattle.leveldb_table.specs.TableBlock.{IsUndecodedBy}
+use Rattle.leveldb_table.proofs.RefusalLemmas.{IfErr-passed, IfErr-refused}
 use Rattle.leveldb_table.proofs.table_block.decoded.Goals as goal
 
 pub returns-in_err-get-clause-ok : goal.returns-in_err-get-clause-ok

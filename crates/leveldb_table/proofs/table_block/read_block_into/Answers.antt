@@ -1,7 +1,7 @@
 use Rattle.std.proofs.Common.{ℕ, Err}
+use Rattle.std.proofs.lemmas.Result.{IfOk-from_err}
 use Rattle.leveldb_env.specs.contracts.compressor.CompressorListCompressors.TheImpl
 use Rattle.leveldb_table.proofs.TableBlockLemmas.{lacks_stored, lacks_undecoded, lacks_block, damaged_or_memory, located_as, reads_ok, reads_own, reads_passed, reads_weaker, reads_refused}
-use Rattle.std.proofs.lemmas.Result.{IfOk-from_err}
 use Rattle.leveldb_table.proofs.RefusalLemmas.{IfOk-refused}
 use Rattle.leveldb_table.proofs.table_block.read_block_into.Goals as goal
 

@@ -1,8 +1,8 @@
 use Rattle.std.proofs.Common.{ℕ, sym, ◌∙◌, subst, Err, inl, inr, ⊎_elim, refl}
+use Rattle.std.proofs.lemmas.Result.{IfOk-from_err}
 use Rattle.leveldb_env.specs.FilterBlock.{IsFilterBlock}
 use Rattle.leveldb_table.proofs.TableBlockLemmas.{damaged_or_memory, located_as, reads_ok, reads_own, reads_weaker, reads_refused, KeepsDisk-refl}
 use Rattle.leveldb_table.proofs.TableLemmas.{stores_one}
-use Rattle.std.proofs.lemmas.Result.{IfOk-from_err}
 use Rattle.leveldb_table.proofs.RefusalLemmas.{IfOk-refused}
 use Rattle.leveldb_table.proofs.table_block.read_filter_block.Goals as goal
 

@@ -1,7 +1,7 @@
 use Rattle.std.proofs.Common.{◌<◌, refl, subst, inl, inr}
 use Rattle.std.specs.List.{All}
-use Rattle.leveldb_table.proofs.BlockCheckLemmas.{no_block_short, no_block_parts, held_parts}
 use Rattle.std.proofs.lemmas.Result.{IfOk-from_err}
+use Rattle.leveldb_table.proofs.BlockCheckLemmas.{no_block_short, no_block_parts, held_parts}
 use Rattle.leveldb_table.proofs.RefusalLemmas.{IfErr-passed, IfErr-refused, IfOk-refused}
 use Rattle.leveldb_table.proofs.block.Block.new.Goals as goal
 

@@ -1,15 +1,17 @@
 use Rattle.std.proofs.Common.{◌≡◌, ◌+◌, ◌-◌, ◌*◌, ◌<◌, ◌≤◌, ◌∙◌, ℕ, Option, None, Some, ap, arith, drop, length}
 use Rattle.std.specs.Option.{MatchOption, SomeIff}
 use Rattle.std.proofs.lemmas.List.{take_rest}
+use Rattle.std.proofs.lemmas.Grind.{get_or_default_zero}
 use Rattle.byteorder.specs.Endian.{little_number}
 use Rattle.leveldb_table.specs.BlockCheck.{count_at_end}
-use Rattle.std.proofs.lemmas.Grind.{get_or_default_zero}
 use Rattle.leveldb_table.proofs.block.check.entries_end.Goals as goal
 
+-- a block without a number of restart points
 too_short : (long count : ℕ) (result : Option ℕ) → result ≡ None → (4 ≤ long → ⊥) → MatchOption result (long < 4 * count + 4) (λ limit. limit + (4 * count + 4) ≡ long)
 too_short long count None none short = omega (arith, short)
 too_short long count (Some limit) none short = cc
 
+-- where the restart points of a block begin, if it has room for them
 limit_is : (long end read count : ℕ) (result : Option ℕ) → SomeIff result (4 * read ≤ end) (end - 4 * read) → 4 ≤ long → end ≡ long - 4 → read ≡ count
     → MatchOption result (long < 4 * count + 4) (λ limit. limit + (4 * count + 4) ≡ long)
 limit_is long end read count None left some at same = omega (arith, left, some, at, same)

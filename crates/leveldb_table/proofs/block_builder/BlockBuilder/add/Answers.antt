@@ -1,14 +1,14 @@
 use Rattle.std.proofs.Common.{◌≡◌, ◌+◌, ◌^◌, ◌≤◌, true, false, ◌++◌, ◌∷◌, [], ◌%◌, ◌<◌, nat_eq, length, take, drop, refl, sym, ◌∙◌, ap, subst, arith, rules, length-drop, inl, inr, ℕ, List, flat_map, Result, Ok, Err}
 use Rattle.std.proofs.lemmas.List.{take_rest}
+use Rattle.std.specs.Prelude.{IsErrAnd}
+use Rattle.leveldb_base.specs.Error.{IsOutOfMemory}
+use Rattle.leveldb_base.specs.declared.error.Status.{Status}
+use Rattle.leveldb_base.specs.declared.error.StatusCode.TheVariants.{NotSupported, OutOfMemory}
 use Rattle.leveldb_table.specs.Block.{parts_bytes, BlockEntry, entry_bytes}
 use Rattle.leveldb_table.specs.BlockBuilder.{AreEntriesBuilt, points_more, shared_len, IsEntryTooLarge}
 use Rattle.leveldb_table.specs.BlockBuilderLaws.{HasEntriesBuilt-prop}
 use Rattle.leveldb_table.proofs.BlockBuilderLemmas.{built_are, entries_are, pairs_are, OnErr-always, parts_room, count_small, built_more, new_entry, new_pairs, entry_is}
 use Rattle.leveldb_table.proofs.RefusalLemmas.{IfErr-refused, OnOk-refused}
-use Rattle.std.specs.Prelude.{IsErrAnd}
-use Rattle.leveldb_base.specs.Error.{IsOutOfMemory}
-use Rattle.leveldb_base.specs.declared.error.Status.{Status}
-use Rattle.leveldb_base.specs.declared.error.StatusCode.TheVariants.{NotSupported, OutOfMemory}
 use Rattle.leveldb_table.proofs.block_builder.BlockBuilder.add.Goals as goal
 
 pub returns-then-not-fits-clause-err : goal.returns-then-not-fits-clause-err
@@ -179,10 +179,12 @@ returns-in_err-reserve-2-clause-cause g c = IfErr-refused _ _ c.from_residual-in
 pub returns-in_err-reserve-3-clause-cause : goal.returns-in_err-reserve-3-clause-cause
 returns-in_err-reserve-3-clause-cause g c = IfErr-refused _ _ c.from_residual-in_err-reserve-3.result (λ status memory. inr memory) c.from_residual-in_err-reserve-3.ensures.1
 
+-- an error that is out of memory is not for a large entry
 memory_not_large : {T : Type 0} (result : Result T Status) → IsErrAnd result IsOutOfMemory → IsErrAnd result (λ status. status.code ≡ NotSupported) → ⊥
 memory_not_large (Ok value) memory large = memory
 memory_not_large (Err status) memory large = let clash : OutOfMemory ≡ NotSupported = sym memory.0 ∙ large in cc
 
+-- an entry of lengths and an offset of 32 bits is not too large
 entry_fits : (entries : List BlockEntry) (key value bytes : List ℕ) → bytes ≡ flat_map entry_bytes entries → length bytes < 2 ^ 32 → length key < 2 ^ 32 → length value < 2 ^ 32 → IsEntryTooLarge entries key value → ⊥
 entry_fits entries key value bytes encoded small key_small value_small (inl large) = omega (arith, small, ap length encoded, large)
 entry_fits entries key value bytes encoded small key_small value_small (inr (inl large)) = omega (arith, key_small, large)
@@ -192,30 +194,38 @@ pub returns-in_err-reserve-clause-too_large : goal.returns-in_err-reserve-clause
 returns-in_err-reserve-clause-too_large g c =
     let fit = c.fits.ensures.0 c.if-not-fits.false in
     let here = fit.0 in
-    let small : length c.self.inside.buffer.items < 2 ^ 32 = omega (arith, here, c.len.ensures, c.self.inside.buffer.ok.0) in
-    (λ large. absurd (memory_not_large c.from_residual.result c.from_residual.ensures.1 large), λ large. absurd (entry_fits c.self.inside.built.0 _ _ _ c.self.inside.built.1.encoded small fit.1 fit.2
-    (subst (λ core. IsEntryTooLarge core.entries c.args.key.now c.args.value.now) (sym c.self.view_is) large)))
+    let small : length c.self.inside.buffer.items < 2 ^ 32 = omega (arith, here, c.len.ensures, c.self.inside.buffer.ok.0) in (
+      λ large. absurd (memory_not_large c.from_residual.result c.from_residual.ensures.1 large),
+      λ large. absurd (entry_fits c.self.inside.built.0 _ _ _ c.self.inside.built.1.encoded small fit.1 fit.2
+          (subst (λ core. IsEntryTooLarge core.entries c.args.key.now c.args.value.now) (sym c.self.view_is) large)),
+    )
 
 pub returns-in_err-reserve-2-clause-too_large : goal.returns-in_err-reserve-2-clause-too_large
 returns-in_err-reserve-2-clause-too_large g c =
     let fit = c.fits.ensures.0 c.if-not-fits.false in
     let here = fit.0 in
-    let small : length c.self.inside.buffer.items < 2 ^ 32 = omega (arith, here, c.len.ensures, c.self.inside.buffer.ok.0) in
-    (λ large. absurd (memory_not_large c.from_residual-in_err-reserve-2.result c.from_residual-in_err-reserve-2.ensures.1 large), λ large. absurd (entry_fits c.self.inside.built.0 _ _ _ c.self.inside.built.1.encoded small fit.1 fit.2
-    (subst (λ core. IsEntryTooLarge core.entries c.args.key.now c.args.value.now) (sym c.self.view_is) large)))
+    let small : length c.self.inside.buffer.items < 2 ^ 32 = omega (arith, here, c.len.ensures, c.self.inside.buffer.ok.0) in (
+      λ large. absurd (memory_not_large c.from_residual-in_err-reserve-2.result c.from_residual-in_err-reserve-2.ensures.1 large),
+      λ large. absurd (entry_fits c.self.inside.built.0 _ _ _ c.self.inside.built.1.encoded small fit.1 fit.2
+          (subst (λ core. IsEntryTooLarge core.entries c.args.key.now c.args.value.now) (sym c.self.view_is) large)),
+    )
 
 pub returns-in_err-reserve-3-clause-too_large : goal.returns-in_err-reserve-3-clause-too_large
 returns-in_err-reserve-3-clause-too_large g c =
     let fit = c.fits.ensures.0 c.if-not-fits.false in
     let here = fit.0 in
-    let small : length c.self.inside.buffer.items < 2 ^ 32 = omega (arith, here, c.len.ensures, c.self.inside.buffer.ok.0) in
-    (λ large. absurd (memory_not_large c.from_residual-in_err-reserve-3.result c.from_residual-in_err-reserve-3.ensures.1 large), λ large. absurd (entry_fits c.self.inside.built.0 _ _ _ c.self.inside.built.1.encoded small fit.1 fit.2
-    (subst (λ core. IsEntryTooLarge core.entries c.args.key.now c.args.value.now) (sym c.self.view_is) large)))
+    let small : length c.self.inside.buffer.items < 2 ^ 32 = omega (arith, here, c.len.ensures, c.self.inside.buffer.ok.0) in (
+      λ large. absurd (memory_not_large c.from_residual-in_err-reserve-3.result c.from_residual-in_err-reserve-3.ensures.1 large),
+      λ large. absurd (entry_fits c.self.inside.built.0 _ _ _ c.self.inside.built.1.encoded small fit.1 fit.2
+          (subst (λ core. IsEntryTooLarge core.entries c.args.key.now c.args.value.now) (sym c.self.view_is) large)),
+    )
 
 pub returns-clause-too_large : goal.returns-clause-too_large
 returns-clause-too_large g c =
     let fit = c.fits.ensures.0 c.if-not-fits.false in
     let here = fit.0 in
-    let small : length c.self.inside.buffer.items < 2 ^ 32 = omega (arith, here, c.len.ensures, c.self.inside.buffer.ok.0) in
-    (λ large. absurd large, λ large. absurd (entry_fits c.self.inside.built.0 _ _ _ c.self.inside.built.1.encoded small fit.1 fit.2
-    (subst (λ core. IsEntryTooLarge core.entries c.args.key.now c.args.value.now) (sym c.self.view_is) large)))
+    let small : length c.self.inside.buffer.items < 2 ^ 32 = omega (arith, here, c.len.ensures, c.self.inside.buffer.ok.0) in (
+      λ large. absurd large,
+      λ large. absurd (entry_fits c.self.inside.built.0 _ _ _ c.self.inside.built.1.encoded small fit.1 fit.2
+          (subst (λ core. IsEntryTooLarge core.entries c.args.key.now c.args.value.now) (sym c.self.view_is) large)),
+    )

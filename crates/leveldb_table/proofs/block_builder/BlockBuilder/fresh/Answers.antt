@@ -1,6 +1,6 @@
+use Rattle.std.proofs.Common.{ap, refl}
 use Rattle.std.proofs.lemmas.Result.{IfOk-from_err}
 use Rattle.leveldb_table.proofs.RefusalLemmas.{IfErr-refused}
-use Rattle.std.proofs.Common.{ap, refl}
 use Rattle.leveldb_table.proofs.block_builder.BlockBuilder.fresh.Goals as goal
 
 pub returns-in_err-with_capacity-clause-none : goal.returns-in_err-with_capacity-clause-none

@@ -1,11 +1,11 @@
 use Rattle.std.proofs.Common.{ap, ◌∙◌, None, sym}
 use Rattle.std.specs.Prelude.{is_some}
+use Rattle.std.proofs.lemmas.Result.{IfOk-from_err}
+use Rattle.std.proofs.lemmas.Bool.{true≢false}
 use Rattle.leveldb_base.specs.Types.{position_within}
 use Rattle.leveldb_table.specs.Block.{pairs_of}
 use Rattle.leveldb_table.proofs.ReadableFileLemmas.{passing_ends, passing_first, passing_next, passing_smaller, passing_stops}
-use Rattle.std.proofs.lemmas.Result.{IfOk-from_err}
 use Rattle.leveldb_table.proofs.RefusalLemmas.{IfErr-passed}
-use Rattle.std.proofs.lemmas.Bool.{true≢false}
 use Rattle.leveldb_table.proofs.readable.keys.are_between.Goals as goal
 
 pub pairs-init : goal.pairs-init

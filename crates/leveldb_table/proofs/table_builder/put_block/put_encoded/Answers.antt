@@ -1,5 +1,5 @@
-use Rattle.std.proofs.lemmas.Result.{IfOk-from_err}
 use Rattle.std.proofs.Common.{inl, inr, refl}
+use Rattle.std.proofs.lemmas.Result.{IfOk-from_err}
 use Rattle.leveldb_table.proofs.RefusalLemmas.{IfErr-passed}
 use Rattle.leveldb_table.proofs.table_builder.put_block.put_encoded.Goals as goal
 

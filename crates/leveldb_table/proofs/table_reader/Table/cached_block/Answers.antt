@@ -1,9 +1,9 @@
 use Rattle.std.proofs.Common.{sym, ◌∙◌, ap, arith}
 use Rattle.std.specs.Prelude.{option_copied}
+use Rattle.std.proofs.lemmas.Result.{IfOk-from_err}
 use Rattle.leveldb_table.specs.Cache.{value_of}
 use Rattle.leveldb_table.specs.BlockCache.{cache_key}
 use Rattle.leveldb_table.proofs.CacheLemmas.{after_look_up}
-use Rattle.std.proofs.lemmas.Result.{IfOk-from_err}
 use Rattle.leveldb_table.proofs.RefusalLemmas.{IfErr-refused}
 use Rattle.leveldb_table.proofs.table_reader.Table.cached_block.Goals as goal
 

@@ -1,9 +1,9 @@
-use Rattle.std.proofs.Common.{◌≢◌, Some, ap, ◌∙◌, subst, ⊎_elim, arith, refl, inl, inr}
+use Rattle.std.proofs.Common.{◌≢◌, Some, ap, ◌∙◌, subst, ⊎_elim, arith, refl, inl}
+use Rattle.std.proofs.lemmas.Result.{IfOk-from_err}
 use Rattle.leveldb_table.specs.Table.{filter_key}
 use Rattle.leveldb_table.specs.TableReader.{GivesHandle, value_under}
 use Rattle.leveldb_table.proofs.TableReaderLemmas.{filters_lacking}
-use Rattle.leveldb_table.proofs.TableBlockLemmas.{reads_weaker, reads_refused, KeepsDisk-refl, reads_own, reads_ok, reads_passed}
-use Rattle.std.proofs.lemmas.Result.{IfOk-from_err}
+use Rattle.leveldb_table.proofs.TableBlockLemmas.{reads_weaker, reads_refused, KeepsDisk-refl, reads_own, reads_ok}
 use Rattle.leveldb_table.proofs.table_reader.open.read_filters.Goals as goal
 
 pub returns-in_err-read_filter_block-clause-reads : goal.returns-in_err-read_filter_block-clause-reads

@@ -1,9 +1,9 @@
-use Rattle.std.proofs.Common.{inr, refl, sym, ◌∙◌, arith, length}
+use Rattle.std.proofs.Common.{inr, refl, sym, ◌∙◌, arith}
+use Rattle.std.proofs.lemmas.Result.{IfOk-from_err}
+use Rattle.std.proofs.lemmas.List.{length-drop}
 use Rattle.leveldb_table.proofs.FooterLemmas.{ends_at, ends_long, ends_with}
 use Rattle.leveldb_table.proofs.TableBlockLemmas.{KeepsDisk-refl, reads_own, reads_ok, reads_refused, reads_weaker}
-use Rattle.std.proofs.lemmas.Result.{IfOk-from_err}
 use Rattle.leveldb_table.proofs.RefusalLemmas.{IfOk-refused}
-use Rattle.std.proofs.lemmas.List.{length-drop}
 use Rattle.leveldb_table.proofs.table_reader.open.read_footer.Goals as goal
 
 pub returns-in_default-clause-reads : goal.returns-in_default-clause-reads

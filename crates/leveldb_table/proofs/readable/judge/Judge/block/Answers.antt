@@ -1,14 +1,14 @@
 use Rattle.std.proofs.Common.{rules, ◌≡◌, subst, inl, inr, ⊎_elim, sym}
 use Rattle.std.specs.Prelude.{MatchOption}
+use Rattle.std.proofs.lemmas.Result.{IfOk-from_err}
 use Rattle.leveldb_base.specs.declared.error.StatusCode.TheVariants.{Corruption}
 use Rattle.leveldb_env.specs.contracts.compressor.CompressorListCompressors.TheImpl
+use Rattle.leveldb_env.specs.Compressor.{Decodes}
 use Rattle.leveldb_table.specs.Table.{StoresAt, HasBlockAt}
 use Rattle.leveldb_table.specs.TableBlock.{StoresNothing}
 use Rattle.leveldb_table.proofs.ReadableTableLemmas.{no_block_by_more, unstored_by_more}
-use Rattle.std.proofs.lemmas.Result.{IfOk-from_err}
 use Rattle.leveldb_table.proofs.TableBlockLemmas.{reads_ok, reads_passed, reads_refused, reads_weaker}
 use Rattle.leveldb_table.proofs.ReadableFileLemmas.{undecoded_error}
-use Rattle.leveldb_env.specs.Compressor.{Decodes}
 use Rattle.leveldb_table.proofs.readable.judge.Judge.block.Goals as goal
 
 pub returns-in_default-clause-ok : goal.returns-in_default-clause-ok

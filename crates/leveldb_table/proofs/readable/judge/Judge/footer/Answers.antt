@@ -1,8 +1,8 @@
 use Rattle.std.proofs.Common.{ap, arith, length, ◌∙◌, refl}
+use Rattle.std.proofs.lemmas.Result.{IfOk-from_err}
 use Rattle.leveldb_table.proofs.FooterLemmas.{ends_long}
 use Rattle.leveldb_table.proofs.ReadableFileLemmas.{footer_read, never_damaged}
 use Rattle.leveldb_table.proofs.TableBlockLemmas.{KeepsDisk-refl, reads_ok, reads_refused, reads_weaker}
-use Rattle.std.proofs.lemmas.Result.{IfOk-from_err}
 use Rattle.leveldb_table.proofs.readable.judge.Judge.footer.Goals as goal
 
 pub returns-in_default-clause-ok : goal.returns-in_default-clause-ok

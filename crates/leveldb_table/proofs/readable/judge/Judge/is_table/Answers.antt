@@ -1,5 +1,6 @@
 use Rattle.std.proofs.Common.{None, ap, length, refl, subst, ◌≡◌, ◌∙◌, inl}
 use Rattle.std.specs.Prelude.{IfSome, MatchOption}
+use Rattle.std.proofs.lemmas.Result.{IfOk-from_err}
 use Rattle.leveldb_base.specs.BlockHandle.{Handle}
 use Rattle.leveldb_base.specs.Cmp.{bytewise}
 use Rattle.leveldb_env.specs.Compressor.{Decodes}
@@ -11,7 +12,6 @@ use Rattle.leveldb_table.specs.TableReader.{EndsInFooter}
 use Rattle.leveldb_table.proofs.ReadableJudgeLemmas.{block_fails, lines_fail, no_test, none_if, some_if, table_judged}
 use Rattle.leveldb_table.proofs.ReadableTableLemmas.{no_footer_no_table, no_index_no_table, no_meta_no_table}
 use Rattle.leveldb_table.proofs.TableBlockLemmas.{FileHas-after, KeepsDisk-trans, reads_refused, reads_ok, reads_weaker}
-use Rattle.std.proofs.lemmas.Result.{IfOk-from_err}
 use Rattle.leveldb_table.proofs.readable.judge.Judge.is_table.Goals as goal
 
 pub returns-in_default-clause-ok : goal.returns-in_default-clause-ok

@@ -1,5 +1,7 @@
-use Rattle.std.proofs.Common.{None, ap, subst, sym, refl, ◌≡◌, ◌∙◌, inl, inr}
+use Rattle.std.proofs.Common.{None, ap, subst, sym, refl, ◌≡◌, ◌∙◌, inl}
 use Rattle.std.specs.Prelude.{IfSome, MatchOption}
+use Rattle.std.proofs.lemmas.Result.{IfOk-from_err, IfErr-weaker}
+use Rattle.std.proofs.lemmas.Bool.{true≢false}
 use Rattle.leveldb_env.specs.Compressor.{Decodes}
 use Rattle.leveldb_env.specs.contracts.compressor.CompressorListCompressors.TheImpl
 use Rattle.leveldb_table.specs.Block.{HasEntries, pairs_of}
@@ -9,8 +11,6 @@ use Rattle.leveldb_table.specs.Table.{HasBlockAt}
 use Rattle.leveldb_table.proofs.ReadableFileLemmas.{lacking_line, unnamed_line}
 use Rattle.leveldb_table.proofs.ReadableJudgeLemmas.{line_judged, no_test}
 use Rattle.leveldb_table.proofs.TableBlockLemmas.{KeepsDisk-refl, reads_ok, reads_ends, reads_refused, reads_weaker}
-use Rattle.std.proofs.lemmas.Result.{IfOk-from_err, IfErr-weaker}
-use Rattle.std.proofs.lemmas.Bool.{true≢false}
 use Rattle.leveldb_table.proofs.readable.judge.Judge.line_holds.Goals as goal
 
 pub returns-in_default-2-clause-ok : goal.returns-in_default-2-clause-ok

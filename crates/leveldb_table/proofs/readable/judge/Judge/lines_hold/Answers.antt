@@ -1,4 +1,5 @@
 use Rattle.std.proofs.Common.{None, Some, ap, false, rules, subst, sym, true, ◌≡◌, inl, refl, ◌∙◌}
+use Rattle.std.proofs.lemmas.Result.{IfOk-from_err}
 use Rattle.leveldb_env.specs.contracts.compressor.CompressorListCompressors.TheImpl
 use Rattle.leveldb_table.specs.Block.{pairs_of}
 use Rattle.leveldb_table.specs.BlockCheck.{key_before}
@@ -6,7 +7,6 @@ use Rattle.leveldb_table.specs.ReadableTable.{ForFileOf, LineHolds, TestsByMore}
 use Rattle.leveldb_table.proofs.ReadableFileLemmas.{LinesSoFar, so_far_ends, so_far_first, so_far_next, so_far_smaller, so_far_stops}
 use Rattle.leveldb_table.proofs.ReadableJudgeLemmas.{line_fails}
 use Rattle.leveldb_table.proofs.TableBlockLemmas.{reads_refused, KeepsDisk-refl, KeepsDisk-trans, reads_ok, reads_own, reads_passed}
-use Rattle.std.proofs.lemmas.Result.{IfOk-from_err}
 use Rattle.leveldb_table.proofs.readable.judge.Judge.lines_hold.Goals as goal
 
 pub lines-init : goal.lines-init

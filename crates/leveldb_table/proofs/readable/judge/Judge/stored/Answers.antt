@@ -1,11 +1,11 @@
 use Rattle.std.proofs.Common.{◌≡◌, ◌+◌, length, take, sym, ◌∙◌, ap, refl, arith}
 use Rattle.std.proofs.lemmas.List.{length-take-le}
+use Rattle.std.proofs.lemmas.Result.{IfOk-from_err}
 use Rattle.leveldb_base.specs.BlockHandle.{HandleFits}
 use Rattle.leveldb_table.specs.Table.{with_trailer}
 use Rattle.leveldb_table.proofs.ReadableFileLemmas.{never_damaged}
 use Rattle.leveldb_table.proofs.TableBlockLemmas.{reads_refused, reads_weaker, KeepsDisk-refl, reads_ok}
 use Rattle.leveldb_table.proofs.TableLemmas.{read_as, is_there_as, stores_from}
-use Rattle.std.proofs.lemmas.Result.{IfOk-from_err}
 use Rattle.leveldb_table.proofs.ReadableTableLemmas.{stored_within}
 use Rattle.leveldb_table.proofs.readable.judge.Judge.stored.Goals as goal
 

@@ -3,9 +3,9 @@ use Rattle.leveldb_env.proofs.FilterBlockLemmas.{keeps_keys}
 use Rattle.leveldb_table.specs.Block.{pairs_of}
 use Rattle.leveldb_table.specs.TableBuilder.{TableBuilt, stage}
 use Rattle.leveldb_table.specs.PutBlock.{IsTooLong}
+use Rattle.leveldb_table.specs.TableBuilderStage.{with_pair}
 use Rattle.leveldb_table.proofs.TableLemmas.{last_pushed}
 use Rattle.leveldb_table.proofs.TableBuilderAddLemmas.{taken_after, takes_no_pair, broken_clash}
-use Rattle.leveldb_table.specs.TableBuilderStage.{with_pair}
 use Rattle.leveldb_table.proofs.TableBuilderStageLemmas.{laid_added, after_all, open_rises, sound_added}
 use Rattle.leveldb_table.proofs.RefusalLemmas.{IfErr-passed, OnOk-refused}
 use Rattle.leveldb_table.proofs.table_builder.builder_core.BuilderCore.add.Goals as goal

@@ -1,14 +1,14 @@
 use Rattle.std.proofs.Common.{◌∙◌, ◌≡◌, ◌+◌, ◌/◌, ◌<◌, ◌≤◌, length, sym, subst, arith, refl, inl, inr, ap}
 use Rattle.std.proofs.lemmas.List.{append-nil}
-use Rattle.leveldb_base.specs.BlockHandle.{handle_bytes}
-use Rattle.leveldb_table.specs.Block.{pairs_of}
-use Rattle.leveldb_table.specs.Table.{with_trailer}
-use Rattle.leveldb_table.proofs.TableLemmas.{IfErr-below, OnOk-with, OnOk-both, is_line}
-use Rattle.leveldb_table.proofs.RefusalLemmas.{IfErr-passed, IsErrAnd-passed, OnOk-refused}
 use Rattle.std.specs.Prelude.{IfErr}
+use Rattle.leveldb_base.specs.BlockHandle.{handle_bytes}
 use Rattle.leveldb_env.specs.Compressor.{IsUnset}
 use Rattle.leveldb_env.specs.contracts.compressor.CompressorListCompressors.TheImpl
+use Rattle.leveldb_table.specs.Block.{pairs_of}
+use Rattle.leveldb_table.specs.Table.{with_trailer}
 use Rattle.leveldb_table.specs.TableBuilderAdd.{IsNotClosed}
+use Rattle.leveldb_table.proofs.TableLemmas.{IfErr-below, OnOk-with, OnOk-both, is_line}
+use Rattle.leveldb_table.proofs.RefusalLemmas.{IfErr-passed, IsErrAnd-passed, OnOk-refused}
 use Rattle.leveldb_table.proofs.table_builder.builder_core.BuilderCore.close_block.Goals as goal
 
 pub returns-in_err-separator-clause-cause : goal.returns-in_err-separator-clause-cause

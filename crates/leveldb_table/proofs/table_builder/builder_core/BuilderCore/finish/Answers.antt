@@ -1,15 +1,15 @@
 use Rattle.std.proofs.Common.{◌++◌, ◌∙◌, sym, refl, append_assoc, inl, inr, subst}
 use Rattle.std.proofs.lemmas.Bool.{true≢false}
 use Rattle.std.proofs.lemmas.Result.{err_from_is_err_and, IfOk-weaker, IfOk-from_err}
+use Rattle.std.specs.Prelude.{IfErr, IfOk}
 use Rattle.leveldb_env.proofs.SinkLemmas.{PutsAll-trans}
 use Rattle.leveldb_env.specs.contracts.compressor.CompressorListCompressors.TheImpl.{ghosts as compressors}
 use Rattle.leveldb_env.proofs.FilterBlockLemmas.{keeps_keys}
 use Rattle.leveldb_table.specs.TableBuilder.{TableBuilt, stage}
+use Rattle.leveldb_table.specs.TableBuilderFinish.{CannotFinish, IsFinishError, IsFinished, RestMakesTable}
 use Rattle.leveldb_table.proofs.TableLemmas.{IfErr-with}
 use Rattle.leveldb_table.proofs.TableBuilderFinishLemmas.{rest_makes, sound_unlined, refused_with, stops_unset_at, table_made, PutsEnd-all, PutsEnd-same}
 use Rattle.leveldb_table.proofs.RefusalLemmas.{IfErr-passed}
-use Rattle.std.specs.Prelude.{IfErr, IfOk}
-use Rattle.leveldb_table.specs.TableBuilderFinish.{CannotFinish, IsFinishError, IsFinished, RestMakesTable}
 use Rattle.leveldb_table.proofs.table_builder.builder_core.BuilderCore.finish.Goals as goal
 
 pub returns-in_err-check_unbroken-clause-cause : goal.returns-in_err-check_unbroken-clause-cause

@@ -1,17 +1,18 @@
-use Rattle.leveldb_base.specs.declared.cmp.Cmp.{Ghosts as CmpGhosts}
-use Rattle.leveldb_env.specs.declared.env.Env.{Ghosts as EnvGhosts}
-use Rattle.leveldb_table.proofs.TableReaderMovesLemmas.{looks_up_err}
-use Rattle.leveldb_table.proofs.TableBlockLemmas.{reads_own, reads_refused, reads_ok}
 use Rattle.std.proofs.Common.{inl, ◌∙◌, ◌≡◌, ap, sym, subst, ℕ, Bool, List, Option, Some, Result, Ok}
+use Rattle.leveldb_base.specs.declared.cmp.Cmp.{Ghosts as CmpGhosts}
 use Rattle.leveldb_base.specs.Types.{Pair}
+use Rattle.leveldb_base.specs.declared.error.Status.{Status}
+use Rattle.leveldb_env.specs.declared.env.Env.{Ghosts as EnvGhosts}
 use Rattle.leveldb_env.specs.Compressor.{Codings}
 use Rattle.leveldb_table.specs.Cache.{Cached}
 use Rattle.leveldb_table.specs.TableReader.{OpenTable}
 use Rattle.leveldb_table.specs.TableReaderMoves.{LooksUp, found_with}
-use Rattle.leveldb_base.specs.declared.error.Status.{Status}
 use Rattle.leveldb_table.specs.declared.block_cache.CachedBlock.{CachedBlock}
+use Rattle.leveldb_table.proofs.TableReaderMovesLemmas.{looks_up_err}
+use Rattle.leveldb_table.proofs.TableBlockLemmas.{reads_own, reads_refused}
 use Rattle.leveldb_table.proofs.table_reader.reader.TableReader.get.Goals as goal
 
+-- a look-up with the same answer
 looks_up_as : {E C FP F : Type 0} {order : CmpGhosts C} {env : EnvGhosts E F} {codings : Codings} {matches : FP → List ℕ → List ℕ → Bool} {table : OpenTable C FP F} {key : List ℕ} {old_env new_env : E} {old_cache new_cache : Cached (CachedBlock C)} {result other : Result (Option Pair) Status}
     → result ≡ other → LooksUp order env codings matches table key old_env old_cache result new_env new_cache → LooksUp order env codings matches table key old_env old_cache other new_env new_cache
 looks_up_as {order = order} {env = env} {codings = codings} {matches = matches} {table = table} {key = key} {old_env = old_env} {new_env = new_env} {old_cache = old_cache} {new_cache = new_cache} same up =

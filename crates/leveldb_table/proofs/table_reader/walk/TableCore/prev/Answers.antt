@@ -1,15 +1,15 @@
 use Rattle.std.proofs.Common.{sym, refl, ◌∙◌, ap, subst, ◌≡◌, ℕ, List, Option, None, Some, Ok}
+use Rattle.std.specs.declared.cmp.Ordering.{Ordering}
+use Rattle.leveldb_base.specs.Types.{Pair, previous_position}
 use Rattle.leveldb_env.specs.contracts.compressor.CompressorListCompressors.TheImpl
+use Rattle.leveldb_env.specs.Compressor.{Codings}
 use Rattle.leveldb_table.specs.BlockWalk.{pairs_over, position_over}
 use Rattle.leveldb_table.specs.TableReaderWalk.{IsAtPairOrNone, inner_position, inner_pairs, TablePosition, table_position}
+use Rattle.leveldb_table.specs.Table.{Part}
+use Rattle.leveldb_table.specs.TableReaderMoves.{ToPreviousPair}
 use Rattle.leveldb_table.proofs.TableReaderWalkLemmas.{none_there, not_none, moves_enters, some_none}
 use Rattle.leveldb_table.proofs.TableReaderMovesLemmas.{before_first, backward_previous}
 use Rattle.leveldb_table.proofs.RefusalLemmas.{IfOk-refused}
-use Rattle.std.specs.declared.cmp.Ordering.{Ordering}
-use Rattle.leveldb_base.specs.Types.{Pair, previous_position}
-use Rattle.leveldb_env.specs.Compressor.{Codings}
-use Rattle.leveldb_table.specs.Table.{Part}
-use Rattle.leveldb_table.specs.TableReaderMoves.{ToPreviousPair}
 use Rattle.leveldb_table.proofs.BlockCacheLemmas.{GainsBlocks-refl}
 use Rattle.leveldb_table.proofs.TableBlockLemmas.{KeepsDisk-refl, reads_ok}
 use Rattle.leveldb_table.proofs.table_reader.walk.TableCore.prev.Goals as goal
@@ -53,6 +53,7 @@ none_before : (parts : List Part) (line : Option ℕ) (pairs : List Pair) (inner
 none_before parts line pairs inner None none at = none
 none_before parts line pairs inner (Some n) none at = absurd (some_none (sym at.at_position ∙ none))
 
+-- and the step back stays there
 stays_none : (codings : Codings) (cmp : List ℕ → List ℕ → Ordering) (bytes : List ℕ) (lines : List Pair) (at : Option ℕ) (old : TablePosition) → at ≡ None → ToPreviousPair codings cmp bytes lines at old (Ok old)
 stays_none codings cmp bytes lines None old none = refl
 stays_none codings cmp bytes lines (Some i) old none = absurd (some_none none)

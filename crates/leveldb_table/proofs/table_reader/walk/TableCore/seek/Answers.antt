@@ -6,12 +6,12 @@ use Rattle.leveldb_table.specs.TableReaderMoves.{line_for, ToKey}
 use Rattle.leveldb_table.specs.TableBlock.{unnamed}
 use Rattle.leveldb_table.specs.BlockWalk.{pairs_over, position_over}
 use Rattle.leveldb_table.specs.TableReaderWalk.{inner_position}
+use Rattle.leveldb_table.specs.Block.{pairs_of}
 use Rattle.leveldb_table.proofs.TableReaderWalkLemmas.{block_lines, line_lacks, moves_enters, seek_none}
 use Rattle.leveldb_table.proofs.TableReaderMovesLemmas.{names_none, none_at, index_line, enters_ends, enters_own, seeks_none, seeks_lacking, line_by, sought_along, names_one}
 use Rattle.leveldb_table.proofs.BlockCacheLemmas.{GainsBlocks-refl}
 use Rattle.leveldb_table.proofs.TableBlockLemmas.{KeepsDisk-refl}
 use Rattle.leveldb_table.proofs.TableReadsLemmas.{enters_memory}
-use Rattle.leveldb_table.specs.Block.{pairs_of}
 use Rattle.leveldb_table.proofs.table_reader.walk.TableCore.seek.Goals as goal
 
 pub returns-in_default : goal.returns-in_default

@@ -1,4 +1,5 @@
 use Rattle.std.proofs.Common.{◌≡◌, true, false, Some, refl, sym, ◌∙◌, ap, inr, None}
+use Rattle.std.specs.Prelude.{is_some}
 use Rattle.leveldb_base.specs.Types.{pair_at, pair_of, seek_position}
 use Rattle.leveldb_env.specs.contracts.compressor.CompressorListCompressors.TheImpl
 use Rattle.leveldb_table.specs.TableReaderBlocks.{IsKeyPosition}
@@ -7,14 +8,13 @@ use Rattle.leveldb_table.specs.TableReader.{may_contain}
 use Rattle.leveldb_table.specs.TableBlock.{unnamed}
 use Rattle.leveldb_table.specs.BlockWalk.{pairs_over, position_over}
 use Rattle.leveldb_table.specs.TableReaderWalk.{inner_position}
+use Rattle.leveldb_table.specs.Block.{pairs_of}
 use Rattle.leveldb_table.proofs.BlockCacheLemmas.{GainsBlocks-refl}
 use Rattle.leveldb_table.proofs.TableBlockLemmas.{KeepsDisk-refl}
 use Rattle.leveldb_table.proofs.TableReaderWalkLemmas.{block_lines, line_lacks}
 use Rattle.leveldb_table.proofs.TableReaderMovesLemmas.{names_one, names_none, none_at, index_line, let_none, let_by, enters_then, enters_ends, enters_own, enters_ok, enters_refused, looks_none, looks_unnamed, looks_refused, line_by, looked_up}
-use Rattle.std.specs.Prelude.{is_some}
 use Rattle.leveldb_table.proofs.RefusalLemmas.{IfOk-refused}
 use Rattle.leveldb_table.proofs.TableReadsLemmas.{enters_memory}
-use Rattle.leveldb_table.specs.Block.{pairs_of}
 use Rattle.leveldb_table.proofs.table_reader.walk.TableCore.seek_filtered.Goals as goal
 
 pub returns-in_default-clause-enters : goal.returns-in_default-clause-enters

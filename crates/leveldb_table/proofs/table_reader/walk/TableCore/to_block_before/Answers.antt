@@ -1,18 +1,18 @@
 use Rattle.std.proofs.Common.{◌≡◌, false, List, ℕ, None, sym, ◌∙◌, ap, refl, inl, inr}
+use Rattle.std.specs.Prelude.{is_some}
 use Rattle.leveldb_base.specs.Types.{previous_position, last_position}
 use Rattle.leveldb_env.specs.contracts.compressor.CompressorListCompressors.TheImpl
 use Rattle.leveldb_table.specs.BlockCache.{HoldsOnlyOf}
 use Rattle.leveldb_table.specs.TableBlock.{FileHas}
 use Rattle.leveldb_table.specs.BlockWalk.{pairs_over, position_over}
 use Rattle.leveldb_table.specs.TableReaderWalk.{inner_position, inner_pairs}
+use Rattle.leveldb_table.specs.TableReaderBlocks.{IsBeforeBlock}
 use Rattle.leveldb_table.proofs.TableBlockLemmas.{KeepsDisk-refl, reads_weaker, reads_refused, reads_own, reads_ok}
 use Rattle.leveldb_table.proofs.TableReaderWalkLemmas.{ok_refused, err_holds, none_there, block_lines, line_lacks, some_none, no_block_before, IsInto, is_into}
 use Rattle.leveldb_table.proofs.TableReaderMovesLemmas.{enters_ends, to_no_block, last_none, previous_is_there, into_lacking, into_at, into_empty}
-use Rattle.std.specs.Prelude.{is_some}
 use Rattle.leveldb_table.proofs.BlockCacheLemmas.{GainsBlocks-refl}
 use Rattle.leveldb_table.proofs.RefusalLemmas.{IfOk-refused}
 use Rattle.leveldb_table.proofs.TableReadsLemmas.{enters_memory}
-use Rattle.leveldb_table.specs.TableReaderBlocks.{IsBeforeBlock}
 use Rattle.leveldb_table.proofs.table_reader.walk.TableCore.to_block_before.Goals as goal
 
 pub returns-in_err-load_line-clause-enters : goal.returns-in_err-load_line-clause-enters

@@ -1,16 +1,15 @@
 use Rattle.std.proofs.Common.{◌≡◌, List, ℕ, None, sym, ◌∙◌, ap, refl, subst, inl, inr, false}
-use Rattle.leveldb_env.specs.contracts.compressor.CompressorListCompressors.TheImpl
 use Rattle.leveldb_base.specs.Types.{last_position}
+use Rattle.leveldb_env.specs.contracts.compressor.CompressorListCompressors.TheImpl
 use Rattle.leveldb_table.specs.BlockCache.{HoldsOnlyOf}
 use Rattle.leveldb_table.specs.TableReader.{pairs_in}
 use Rattle.leveldb_table.specs.TableBlock.{FileHas}
 use Rattle.leveldb_table.specs.BlockWalk.{pairs_over, position_over}
 use Rattle.leveldb_table.specs.TableReaderWalk.{IsAtPosition, inner_position, inner_pairs}
-use Rattle.leveldb_table.proofs.TableBlockLemmas.{reads_weaker, reads_refused, reads_own, reads_ok}
+use Rattle.leveldb_table.proofs.TableBlockLemmas.{reads_weaker, reads_refused, reads_own, reads_ok, KeepsDisk-refl}
 use Rattle.leveldb_table.proofs.TableReaderWalkLemmas.{last_of_none, ok_refused, err_holds, none_there, block_lines, line_lacks, some_none, IsInto, is_into}
 use Rattle.leveldb_table.proofs.TableReaderMovesLemmas.{last_none, last_is_there, enters_ends, to_no_block, into_lacking, into_at, into_empty}
 use Rattle.leveldb_table.proofs.BlockCacheLemmas.{GainsBlocks-refl}
-use Rattle.leveldb_table.proofs.TableBlockLemmas.{KeepsDisk-refl}
 use Rattle.leveldb_table.proofs.TableReadsLemmas.{enters_memory}
 use Rattle.leveldb_table.proofs.table_reader.walk.TableCore.to_last_block.Goals as goal
 
