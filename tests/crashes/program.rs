@@ -170,7 +170,9 @@ fn run_with_log<E: Env, R: Read, W: Write>(
         args.push(String::from_str(alloc, word)?)?;
     }
     let mut err = Vec::new(alloc);
-    let status = ldb_main(alloc, env, &args, log, input, out, &mut err);
+    let mut options = Options::default();
+    options.log = log;
+    let status = ldb_main(alloc, env, &args, options, input, out, &mut err);
     Ok((status, err))
 }
 

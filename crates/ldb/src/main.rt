@@ -5,6 +5,7 @@
 use leveldb_base::error::Result;
 use leveldb_disks::disk_env::{PosixDiskEnv, reserve_descriptors};
 use leveldb_env::infolog::{InfoSink, Logger};
+use leveldb_env::options::Options;
 use rusty_leveldb::shell::ldb_main;
 use std::io::Write;
 use std::process::ExitCode;
@@ -28,12 +29,13 @@ fn main(rt: HostRuntime) -> io::Result<ExitCode> {
     }
     let words: Vec<String> = env::args(&rt)?.skip(1).collect(rt.alloc())?;
     let mut store = PosixDiskEnv::new(&rt);
-    let log = Logger(Box::new(rt.alloc(), Lines(rt.stderr()))?);
+    let mut options = Options::default();
+    options.log = Some(Logger(Box::new(rt.alloc(), Lines(rt.stderr()))?));
     let status = ldb_main(
         rt.alloc(),
         &mut store,
         &words,
-        Some(log),
+        options,
         &mut rt.stdin(),
         &mut rt.stdout(),
         &mut rt.stderr(),

@@ -4,4 +4,3 @@ mod RepairFilesLemmas
 mod RepairStatesLemmas
 pub mod RepairCallLemmas
 pub mod RepairLawsLemmas
-pub mod RepairingFolderLemmas

@@ -1,6 +1,6 @@
 -- What the program's steps did, put together.
-use Rattle.std.proofs.Common.{◌≡◌, ◌<◌, ◌≤◌, ℕ, Bool, true, List, [], ◌∷◌, ◌++◌, length, drop, get_or, Option, Result, Ok, Err, sym, ap, subst, ◌∙◌, arith}
-use Rattle.std.specs.Prelude.{OnOk, String, codes, false, ◌&&◌, is_some}
+use Rattle.std.proofs.Common.{◌≡◌, ◌<◌, ◌≤◌, ℕ, List, [], ◌∷◌, ◌++◌, length, drop, get_or, Option, Result, Ok, Err, sym, ap, subst, ◌∙◌, arith}
+use Rattle.std.specs.Prelude.{OnOk, String, codes}
 use Rattle.std.specs.Io.KnownBytes.{Appends}
 use Rattle.std.specs.declared.alloc.Global.{Global}
 use Rattle.std.specs.declared.io.Read.{Ghosts as ReadGhosts}
@@ -8,19 +8,20 @@ use Rattle.std.specs.declared.io.Write.{Ghosts as WriteGhosts}
 use Rattle.std.proofs.Math.Seq.{drop-append_seam}
 use Rattle.leveldb_base.specs.declared.error.Status.{Status}
 use Rattle.leveldb_env.specs.declared.env.Env.{Ghosts}
+use Rattle.leveldb_env.specs.declared.filter.FilterPolicy.{Ghosts as FilterGhosts}
+use Rattle.leveldb_store.specs.Tables.BuildTable.{TableChoices}
+use Rattle.rusty_leveldb.specs.Engines.Boxes.{InternalOrder}
 use Rattle.rusty_leveldb.specs.declared.shell.commands.Command.{Command}
 use Rattle.rusty_leveldb.specs.declared.shell.commands.Reply.{Reply}
 use Rattle.rusty_leveldb.specs.Machines.State.{Opening}
 use Rattle.rusty_leveldb.specs.Programs.Language.{reply_lines}
-use Rattle.leveldb_env.specs.Compressor.{Codings, plain_codings}
-use Rattle.leveldb_env.specs.Options.{Boxed, OptionsOf, HasDefaultChoices}
-use Rattle.rusty_leveldb.specs.Engines.Engine.{is_size_within, are_within_limits}
+use Rattle.leveldb_env.specs.Options.{Boxed, OptionsOf}
 use Rattle.rusty_leveldb.specs.declared.shell.program.Fault.{Fault}
 use Rattle.rusty_leveldb.specs.declared.shell.program.Fault.TheVariants as fault
 use Rattle.rusty_leveldb.specs.declared.shell.program.Task.TheVariants as task
 use Rattle.rusty_leveldb.specs.declared.shell.program.Way.{Way}
 use Rattle.rusty_leveldb.specs.declared.shell.program.Way.TheVariants as way
-use Rattle.rusty_leveldb.specs.Programs.Program.{status_of, ldb_opening, EndsProgram, HasRunBy, IsAnswered, IsFault, IsPlayed, IsStopped, NamesFolder}
+use Rattle.rusty_leveldb.specs.Programs.Program.{status_of, EndsProgram, HasRunBy, IsAnswered, IsFault, IsPlayed, IsStopped, NamesFolder}
 
 -- a fault's status isn't 0
 pub some_status : (one : Fault) → (1 ≤ status_of one) × (status_of one ≤ 2)
@@ -44,47 +45,32 @@ two_words (a ∷ []) first second some few is then = absurd (omega (arith, some)
 two_words (a ∷ b ∷ []) first second some few is then = ap (λ (w : String Global). w ∷ b ∷ []) (sym is) ∙ ap (λ (w : String Global). first ∷ w ∷ []) (sym then)
 two_words (a ∷ b ∷ c ∷ others) first second some few is then = absurd (omega (arith, few))
 
--- a run, whether it went through or not
-pub has_run : {E F : Type 0} (env : Ghosts E F) (one : Way) (folder : List ℕ) (commands : List Command) (from to : E) (given : List Reply) (wanted : Opening) (ended : Result (Unit {0}) Status) → wanted ≡ ldb_opening
-    → HasRunBy env one folder wanted commands from given ended to
-    → (given : List Reply) × (ended : Result (Unit {0}) Status) × HasRunBy env one folder ldb_opening commands from given ended to
-has_run env one folder commands from to given wanted ended asks run =
-    (given, ended, subst (λ (o : Opening). HasRunBy env one folder o commands from given ended to) asks run)
-
 -- a run that went through, whose replies were written
-pub played : {E F : Type 0} (env : Ghosts E F) (one : Way) (folder : List ℕ) (commands : List Command) (from to : E) (held holds : Option (List ℕ)) (old new told : List Reply) (wanted : Opening)
-    (ended : Unit {0}) (r : Result (Unit {0}) Status) → old ≡ [] → wanted ≡ ldb_opening → told ≡ new
-    → HasRunBy env one folder wanted commands from (drop (length old) new) (Ok ended) to
+pub played : {E C FP F P : Type 0} {B : Boxed} {keys : InternalOrder C} {key_filters : FilterGhosts P}
+    (env : Ghosts E F) (choices : OptionsOf C FP B → TableChoices keys key_filters)
+    (options : OptionsOf C FP B) (asked : Opening) (one : Way) (folder : List ℕ)
+    (commands : List Command) (from to : E) (held holds : Option (List ℕ))
+    (old new told : List Reply) (ended : Unit {0}) (r : Result (Unit {0}) Status) → old ≡ []
+    → told ≡ new
+    → HasRunBy env choices options asked one folder commands from (drop (length old) new) (Ok ended) to
     → ((given : List Reply) × (new ≡ old ++ given) × (length given ≡ length commands))
     → OnOk r (Appends held holds (reply_lines told))
-    → OnOk r (IsPlayed env one folder commands from to held holds)
-played env one folder commands from to held holds old new told wanted ended (Err status) none asks same run behind appends = tt
-played env one folder commands from to held holds old new told wanted ended (Ok done) none asks same run behind appends =
+    → OnOk r (IsPlayed env choices options asked one folder commands from to held holds)
+played env choices options asked one folder commands from to held holds old new told ended
+    (Err status) none same run behind appends = tt
+played env choices options asked one folder commands from to held holds old new told ended
+    (Ok done) none same run behind appends =
     let given = behind.0 in
-    let replies : drop (length old) new ≡ given = ap (drop (length old)) behind.1 ∙ drop-append_seam old given in
-    let P : List Reply → Type 0 = λ list. HasRunBy env one folder wanted commands from list (Ok tt) to in
-    let Q : Opening → Type 0 = λ o. HasRunBy env one folder o commands from given (Ok tt) to in
+    let replies : drop (length old) new ≡ given =
+    ap (drop (length old)) behind.1 ∙ drop-append_seam old given in
+    let P : List Reply → Type 0 = λ list.
+    HasRunBy env choices options asked one folder commands from list (Ok tt) to in
     let T : List Reply → Type 0 = λ list. Appends held holds (reply_lines list) in (
       given,
       behind.2,
-      subst Q asks (subst P replies run),
+      subst P replies run,
       subst T (same ∙ behind.1 ∙ ap (λ (list : List Reply). list ++ given) none) appends,
     )
-
--- default sizes and counts are within their limits
-pub default_fits : {C FP : Type 0} {B : Boxed} {options : OptionsOf C FP B} → HasDefaultChoices options → are_within_limits options ≡ true
-default_fits d = λ i.
-    is_size_within 1 (d.write_buffer i) && is_size_within 11 (d.open_files i) && is_size_within 1 (d.file i)
-    && is_size_within 1 (d.block i) && is_size_within 1 (d.restart_interval i) && is_size_within (d.block i) (d.block_cache i)
-
--- the id 0 is set where blocks are plain
-pub default_compresses : {codings : Codings} {id : ℕ} → codings ≡ plain_codings → id ≡ 0 → is_some (codings id) ≡ true
-default_compresses plain zero = λ i. is_some (plain i (zero i))
-
--- default options with plain blocks ask for the program's opening
-pub asks_so : {codings : Codings} {create exists fits compresses : Bool} → codings ≡ plain_codings → create ≡ true → exists ≡ false → fits ≡ true → compresses ≡ true
-    → (record ldb_opening { format = record (ldb_opening.format) { codings = codings }; create_if_missing = create; error_if_exists = exists; fits = fits; compresses = compresses }) ≡ ldb_opening
-asks_so same create exists fits compresses = λ i. record ldb_opening { format = record (ldb_opening.format) { codings = same i }; create_if_missing = create i; error_if_exists = exists i; fits = fits i; compresses = compresses i }
 
 -- ---- the program's end
 
@@ -96,10 +82,15 @@ one_task args way.Alone folder other run repairs =
     let both : codes "--read-only" ∷ folder ∷ [] ≡ codes "--repair" ∷ other ∷ [] = sym run ∙ repairs in
     let first : 11 ≡ 8 = ap (λ (words : List (List ℕ)). length (get_or words 0 [])) both in omega (arith, first)
 
-module _ {E F I O : Type 0} (env : Ghosts E F) (reads : ReadGhosts I) (writes : WriteGhosts O) (args : List (String Global)) (from : E) (input : I) (out : O) (to : E) (rest : I) (written : O) where
+module _ {E C FP F P I O : Type 0} {B : Boxed} {keys : InternalOrder C}
+    {key_filters : FilterGhosts P} (env : Ghosts E F)
+    (choices : OptionsOf C FP B → TableChoices keys key_filters) (options : OptionsOf C FP B)
+    (asked : Opening) (reads : ReadGhosts I) (writes : WriteGhosts O) (args : List (String Global))
+    (from : E) (input : I) (out : O) (to : E) (rest : I) (written : O) where
   -- all was answered
-  pub ends_answered : IsAnswered env args from to (reads.remaining input) (writes.contents out) (writes.contents written)
-      → EndsProgram env reads writes args from input out 0 to rest written
+  pub ends_answered : IsAnswered env choices options asked args from to (reads.remaining input)
+      (writes.contents out) (writes.contents written)
+      → EndsProgram env choices options asked reads writes args from input out 0 to rest written
   ends_answered all = record {
     answered = λ zero. all;
     stopped = λ one. absurd (omega (arith, one));
@@ -110,8 +101,9 @@ module _ {E F I O : Type 0} (env : Ghosts E F) (reads : ReadGhosts I) (writes : 
 
   -- or there was a fault
   pub ends_at_fault : (why : Fault) (status : ℕ) → status ≡ status_of why → (status_of why ≡ 2 → (to ≡ from) × (written ≡ out))
-      → IsStopped env args from to (reads.remaining input) → IsFault args (reads.remaining input) why
-      → EndsProgram env reads writes args from input out status to rest written
+      → IsStopped env choices options asked args from to (reads.remaining input)
+      → IsFault args (reads.remaining input) why
+      → EndsProgram env choices options asked reads writes args from input out status to rest written
   ends_at_fault why status is still stopped fault_is =
       let some = some_status why in
       record {

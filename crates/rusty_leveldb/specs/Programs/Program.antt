@@ -1,26 +1,15 @@
 -- What the program does: it reads commands, runs them, and writes the replies, or repairs a store.
-use Rattle.std.specs.Prelude.{◌≡◌, ◌⊎◌, ◌<◌, ◌≤◌, ◌^◌, ℕ, List, [], ◌∷◌, ◌++◌, length, map, Option, Result, Ok, IfSome, true, String, string_bytes, false, codes}
+use Rattle.std.specs.Prelude.{◌≡◌, ◌⊎◌, ◌<◌, ◌≤◌, ◌^◌, ℕ, List, [], ◌∷◌, ◌++◌, length, map, Option, Result, Ok, IfSome, String, string_bytes, codes}
 use Rattle.std.specs.Io.KnownBytes.{Appends}
 use Rattle.std.specs.declared.alloc.Global.{Global}
 use Rattle.std.specs.declared.io.Read.{Ghosts as ReadGhosts}
 use Rattle.std.specs.declared.io.Write.{Ghosts as WriteGhosts}
-use Rattle.leveldb_base.specs.Cmp.{bytewise}
-use Rattle.leveldb_base.specs.contracts.cmp.DefaultCmp.{the_row as default_row}
-use Rattle.leveldb_base.specs.contracts.cmp.DefaultCmpCmp.TheImpl as default_cmp
-use Rattle.leveldb_base.specs.contracts.cmp.DefaultCmpUserCmp.TheImpl as default_user
-use Rattle.leveldb_base.specs.contracts.cmp.internal.InternalKeyCmpCmp.TheImpl as internal_keys
-use Rattle.leveldb_base.specs.declared.cmp.Cmp.{Ghosts as CmpGhosts}
-use Rattle.leveldb_base.specs.declared.cmp.DefaultCmp.{DefaultCmp}
-use Rattle.leveldb_base.specs.declared.cmp.internal.InternalKeyCmp.{InternalKeyCmp}
 use Rattle.leveldb_base.specs.declared.error.Status.{Status}
-use Rattle.leveldb_env.specs.contracts.filter.bloom.BloomPolicy.{the_row as bloom_row}
-use Rattle.leveldb_env.specs.contracts.filter.bloom.BloomPolicyFilterPolicy.TheImpl as bloom
-use Rattle.leveldb_env.specs.contracts.filter.internal.InternalFilterPolicyFilterPolicy.TheImpl as internal_filters
 use Rattle.leveldb_env.specs.declared.env.Env.{Ghosts}
 use Rattle.leveldb_env.specs.declared.filter.FilterPolicy.{Ghosts as FilterGhosts}
-use Rattle.leveldb_env.specs.Bloom.{bloom_matches}
-use Rattle.leveldb_env.specs.Compressor.{plain_codings}
+use Rattle.leveldb_env.specs.Options.{Boxed, OptionsOf}
 use Rattle.leveldb_store.specs.Tables.BuildTable.{TableChoices}
+use Rattle.leveldb_store.specs.Writing.Room.{FailsFor}
 use Rattle.rusty_leveldb.specs.declared.shell.commands.Command.{Command}
 use Rattle.rusty_leveldb.specs.declared.shell.commands.Reply.{Reply}
 use Rattle.rusty_leveldb.specs.declared.shell.program.Fault.{Fault}
@@ -29,10 +18,13 @@ use Rattle.rusty_leveldb.specs.declared.shell.program.Task.{Task}
 use Rattle.rusty_leveldb.specs.declared.shell.program.Task.TheVariants as task
 use Rattle.rusty_leveldb.specs.declared.shell.program.Way.{Way}
 use Rattle.rusty_leveldb.specs.declared.shell.program.Way.TheVariants as way
+use Rattle.rusty_leveldb.specs.Engines.Boxes.{InternalOrder}
 use Rattle.rusty_leveldb.specs.Programs.Language.{IsScript, IsBadLine, reply_lines}
 use Rattle.rusty_leveldb.specs.Machines.State.{Opening}
+use Rattle.rusty_leveldb.specs.Openings.ReadAlone.{ReadOpenExcused}
 use Rattle.rusty_leveldb.specs.Repairs.Repair.{Repairs}
 use Rattle.rusty_leveldb.specs.Programs.RunAlone.{HasReadAlone}
+use Rattle.rusty_leveldb.specs.Programs.RunCalls.{RunsByCalls}
 use Rattle.rusty_leveldb.specs.Programs.Shell.{HasRun}
 
 -- The arguments name a folder, and what is done there: a single one is the folder, after
@@ -104,52 +96,24 @@ IsInput input commands = (text : List ℕ) × IfSome input (λ bytes. text ≡ b
 abbrev pub IsBadInput : Option (List ℕ) → Type 0
 IsBadInput input = (commands : List Command) → IsInput input commands → ⊥
 
--- What the program opens a store with: LevelDB's order of bytes, its filters with ten bits a key,
--- and blocks stored as they are; a missing store is made.
-abbrev pub ldb_opening : Opening
-ldb_opening = record {
-  format = record {
-    order = bytewise;
-    order_name = codes "leveldb.BytewiseComparator";
-    codings = plain_codings;
-    policy_name = codes "leveldb.BuiltinBloomFilter2";
-    matches = bloom_matches;
-  };
-  create_if_missing = true;
-  error_if_exists = false;
-  fits = true;
-  compresses = true;
-}
+-- ---- what the program does with these options: `choices` says what tables they make, and `asked`
+-- which opening they ask for
 
--- its order of internal keys
-abbrev pub ldb_keys : CmpGhosts (InternalKeyCmp DefaultCmp)
-ldb_keys = internal_keys.ghosts default_row default_user.ghosts default_user.dict default_cmp.ghosts
-    default_cmp.dict
-
--- its filters of internal keys
-abbrev pub ldb_filters : FilterGhosts ℕ
-ldb_filters = internal_filters.ghosts bloom_row bloom.ghosts bloom.dict
-
--- What the program makes the tables of a repair with: these, with ten bits a key, and blocks of
--- 4096 bytes, stored as they are, with a restart point every 16 entries.
-abbrev pub ldb_choices : TableChoices ldb_keys ldb_filters
-ldb_choices = record {
-  format = ldb_opening.format;
-  cmp = record { 0 = record {} };
-  policy = 10;
-  id = 0;
-  block_size = 4096;
-  restarts = 16;
-}
-
-module _ {E F : Type 0} (env : Ghosts E F) where
-  -- a run of commands over the store in a folder, which is opened this way
-  abbrev pub HasRunBy : Way → List ℕ → Opening → List Command → E → List Reply
-      → Result (Unit {0}) Status → E → Type 0
-  HasRunBy way.Whole folder asked commands from given ended to =
+module _ {E C FP F P : Type 0} {B : Boxed} {keys : InternalOrder C} {key_filters : FilterGhosts P}
+    (env : Ghosts E F) (choices : OptionsOf C FP B → TableChoices keys key_filters)
+    (options : OptionsOf C FP B) (asked : Opening) where
+  -- A run of commands over the store in a folder, which is opened this way. Over any environment
+  -- each command of a whole store is a call of the engine, with what its record says; a store that
+  -- is read alone isn't opened for a cause.
+  abbrev pub HasRunBy : Way → List ℕ → List Command → E → List Reply → Result (Unit {0}) Status → E
+      → Type 0
+  HasRunBy way.Whole folder commands from given ended to =
       HasRun env folder asked commands from given ended to
-  HasRunBy way.Alone folder asked commands from given ended to =
+      × RunsByCalls env choices folder options asked commands from given ended to
+  HasRunBy way.Alone folder commands from given ended to =
       HasReadAlone env folder asked commands from given ended to
+      × FailsFor (ReadOpenExcused env folder asked from) (env.failures from) (env.failures to)
+      ended
 
   -- the commands were run in a folder, each was replied to, and the output grew by the replies'
   -- lines
@@ -157,18 +121,16 @@ module _ {E F : Type 0} (env : Ghosts E F) where
       → Type 0
   IsPlayed one folder commands from to held holds =
       (given : List Reply) × (length given ≡ length commands)
-      × HasRunBy one folder ldb_opening commands from given (Ok tt) to
+      × HasRunBy one folder commands from given (Ok tt) to
       × Appends held holds (reply_lines given)
 
-  -- a repair of the store in a folder, as it is asked for, whose tables are made by the program's
-  -- choices
-  abbrev pub HasRepaired : List ℕ → Opening → E → Result (Unit {0}) Status → E → Type 0
-  HasRepaired folder asked from ended to =
-      Repairs env folder asked from ldb_choices ended to
+  -- a repair of the store in a folder, as it is asked for, whose tables are made by the options
+  abbrev pub HasRepaired : List ℕ → E → Result (Unit {0}) Status → E → Type 0
+  HasRepaired folder from ended to = Repairs env folder asked from (choices options) ended to
 
   -- the store in a folder was repaired, and the output grew by the line that says so
   abbrev pub IsRepairAnswered : List ℕ → E → E → Option (List ℕ) → Option (List ℕ) → Type 0
-  IsRepairAnswered folder from to held holds = HasRepaired folder ldb_opening from (Ok tt) to
+  IsRepairAnswered folder from to held holds = HasRepaired folder from (Ok tt) to
       × Appends held holds (codes "repaired" ++ 10 ∷ [])
 
   -- the arguments name a folder, and the commands that the input encodes were run in it; or its
@@ -179,7 +141,7 @@ module _ {E F : Type 0} (env : Ghosts E F) where
       ((one : Way) × (folder : List ℕ) × NamesFolder args (task.Run one) folder
       × (commands : List Command) × IsInput input commands
       × (given : List Reply) × (length given ≡ length commands)
-      × HasRunBy one folder ldb_opening commands from given (Ok tt) to
+      × HasRunBy one folder commands from given (Ok tt) to
       × Appends held holds (reply_lines given))
       ⊎ ((folder : List ℕ) × NamesFolder args task.Repair folder
       × IsRepairAnswered folder from to held holds)
@@ -191,9 +153,9 @@ module _ {E F : Type 0} (env : Ghosts E F) where
       ⊎ ((one : Way) × (folder : List ℕ) × NamesFolder args (task.Run one) folder
       × (commands : List Command) × IsInput input commands
       × (given : List Reply) × (ended : Result (Unit {0}) Status)
-      × HasRunBy one folder ldb_opening commands from given ended to)
+      × HasRunBy one folder commands from given ended to)
       ⊎ ((folder : List ℕ) × NamesFolder args task.Repair folder
-      × (ended : Result (Unit {0}) Status) × HasRepaired folder ldb_opening from ended to)
+      × (ended : Result (Unit {0}) Status) × HasRepaired folder from ended to)
 
   -- What the program did, by the status with which it ended: with these arguments, over this
   -- environment, its input and its output, which it left so.
@@ -211,6 +173,7 @@ module _ {E F : Type 0} (env : Ghosts E F) where
     -- it ends with one of the three
     pub statuses : status ≤ 2
 
+module _ {E F : Type 0} (env : Ghosts E F) where
   -- What it looks at before it opens a store: its arguments, and then its input.
   pub record ChecksInput {I O : Type 0} (reads : ReadGhosts I) (args : List (String Global))
       (from : E) (input : I) (out : O) (status : ℕ) (to : E) (rest : I) (written : O) : Type 0 where

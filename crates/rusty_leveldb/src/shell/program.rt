@@ -2,9 +2,10 @@
 ghost use Rattle.std.specs.Prelude.{◌≡◌, ◌≤◌, ◌^◌, ◌++◌, ℕ, List, Result, drop, length, IfOk, IfErr, IfSome, MatchOption, OnOk, OnErr, IsErrAnd};
 ghost use Rattle.leveldb_base.specs.declared.error.Status.{Status};
 ghost use Rattle.std.specs.Io.KnownBytes.{Appends};
+ghost use Rattle.leveldb_store.specs.Tables.BuildTable.{choices_of};
 ghost use Rattle.rusty_leveldb.specs.Programs.Language.{reply_lines};
 ghost use Rattle.rusty_leveldb.specs.Engines.Engine.{opening_of};
-ghost use Rattle.rusty_leveldb.specs.Programs.Program.{status_of, AskForRepair, AskForRun, ChecksInput, EndsProgram, HasRepaired, HasRunBy, IsBadInput, IsInputFault, IsRepairAnswered, IsInput, IsPlayed, IsAnswered, IsStopped, NamesFolder, NamesNoFolder, StopsFor, ldb_opening};
+ghost use Rattle.rusty_leveldb.specs.Programs.Program.{status_of, AskForRepair, AskForRun, ChecksInput, EndsProgram, HasRepaired, HasRunBy, IsBadInput, IsInputFault, IsRepairAnswered, IsInput, IsPlayed, IsAnswered, IsStopped, NamesFolder, NamesNoFolder, StopsFor};
 ghost use Rattle.rusty_leveldb.specs.declared.shell.commands.Reply.{Reply};
 ghost use Rattle.rusty_leveldb.specs.declared.shell.program.Fault.TheVariants.{Usage};
 
@@ -14,12 +15,11 @@ use super::reading::run_read_only;
 use super::replies::put_replies;
 use super::runs::run;
 use crate::db_impl::repair;
-use leveldb_base::cmp::UserCmp;
+use leveldb_base::cmp::{Cmp, InternalKeyCmp, UserCmp};
 use leveldb_base::error::Status;
 use leveldb_env::compressor::{CompressorList, Compressors};
 use leveldb_env::env::Env;
-use leveldb_env::filter::FilterPolicy;
-use leveldb_env::infolog::Logger;
+use leveldb_env::filter::{FilterPolicy, InternalFilterPolicy};
 use leveldb_env::options::Options;
 use std::alloc::{AllocError, Global};
 use std::fmt;
@@ -75,27 +75,37 @@ impl fmt::Display for Fault {
     }
 }
 
-/// Runs the commands of `input` over the store in the folder that is the last argument, and writes
-/// their replies to `out`. After `--read-only` the store is read alone (`run_read_only`). After
-/// `--repair` it is repaired (`repair`): no input is read, and `repaired` is written. Else a folder
-/// is the only argument. A fault is a line on `err`, and what the store says of its files is a line
-/// for `log`. The status is 0 if all was answered and written, 2 if the arguments, a line or the
-/// length of the input is wrong, and 1 if a call failed.
-pub fn ldb_main<E: Env, I: Read, O: Write, F: Write>(
+/// Runs the commands of `input` over the store in the folder that is the last argument, which is
+/// opened with these options, and writes their replies to `out`. After `--read-only` the store is
+/// read alone (`run_read_only`). After `--repair` it is repaired (`repair`): no input is read, and
+/// `repaired` is written. Else a folder is the only argument. A fault is a line on `err`. The
+/// status is 0 if all was answered and written, 2 if the arguments, a line or the length of the
+/// input is wrong, and 1 if a call failed.
+pub fn ldb_main<
+    E: Env,
+    C: UserCmp + Copy,
+    FP: FilterPolicy + Copy,
+    I: Read,
+    O: Write,
+    F: Write,
+>(
     alloc: Global,
     env: &mut E,
     args: &[String],
-    log: Option<Logger>,
+    opt: Options<C, FP>,
     input: &mut I,
     out: &mut O,
     err: &mut F,
 ) -> u8
-    ensures ends { EndsProgram E.Env I.Read O.Write args.now env.old input.old out.old result
-        env.new input.new out.new }
+    ensures ends { let codings = ⟦<CompressorList as Compressors>⟧.codings in
+        EndsProgram E.Env (choices_of C.Cmp FP.FilterPolicy ⟦<InternalKeyCmp<C> as Cmp>⟧
+        ⟦<InternalFilterPolicy<FP> as FilterPolicy>⟧ codings) opt
+        (opening_of C.Cmp FP.FilterPolicy codings opt) I.Read O.Write args.now env.old input.old
+        out.old result env.new input.new out.new }
     ensures checks { ChecksInput E.Env I.Read args.now env.old input.old out.old result env.new
         input.new out.new }
 {
-    match serve(alloc, env, args, log, input, out) {
+    match serve(alloc, env, args, opt, input, out) {
         Ok(()) => 0,
         Err(fault) => tell_fault(err, fault),
     }
@@ -114,19 +124,24 @@ fn tell_fault<F: Write>(err: &mut F, fault: Fault) -> u8
 }
 
 // Does what the arguments and the input ask for.
-fn serve<E: Env, I: Read, O: Write>(
+fn serve<E: Env, C: UserCmp + Copy, FP: FilterPolicy + Copy, I: Read, O: Write>(
     alloc: Global,
     env: &mut E,
     args: &[String],
-    log: Option<Logger>,
+    opt: Options<C, FP>,
     input: &mut I,
     out: &mut O,
 ) -> Result<(), Fault>
-    ensures answered { OnOk result
-        (IsAnswered E.Env args.now env.old env.new (I.remaining input.old)
-        (O.contents out.old) (O.contents out.new)) }
-    ensures stopped { OnErr result
-        (IsStopped E.Env args.now env.old env.new (I.remaining input.old)) }
+    ensures answered { let codings = ⟦<CompressorList as Compressors>⟧.codings in
+        OnOk result (IsAnswered E.Env (choices_of C.Cmp FP.FilterPolicy
+        ⟦<InternalKeyCmp<C> as Cmp>⟧ ⟦<InternalFilterPolicy<FP> as FilterPolicy>⟧ codings) opt
+        (opening_of C.Cmp FP.FilterPolicy codings opt) args.now env.old env.new
+        (I.remaining input.old) (O.contents out.old) (O.contents out.new)) }
+    ensures stopped { let codings = ⟦<CompressorList as Compressors>⟧.codings in
+        OnErr result (IsStopped E.Env (choices_of C.Cmp FP.FilterPolicy
+        ⟦<InternalKeyCmp<C> as Cmp>⟧ ⟦<InternalFilterPolicy<FP> as FilterPolicy>⟧ codings) opt
+        (opening_of C.Cmp FP.FilterPolicy codings opt) args.now env.old env.new
+        (I.remaining input.old)) }
     ensures fault { IfErr result
         (StopsFor args.now (I.remaining input.old) env.old out.old env.new out.new) }
     ensures usage { NamesNoFolder args.now → IsErrAnd result (λ fault. fault ≡ Usage) }
@@ -139,10 +154,10 @@ fn serve<E: Env, I: Read, O: Write>(
         return Err(Fault::Usage);
     };
     match task {
-        Task::Repair => Ok(repair_folder(alloc, env, folder, log, out)?),
+        Task::Repair => Ok(repair_folder(alloc, env, folder, opt, out)?),
         Task::Run(way) => {
             let commands = read_commands(alloc, input)?;
-            Ok(play(alloc, env, way, folder, log, &commands, out)?)
+            Ok(play(alloc, env, way, folder, opt, &commands, out)?)
         }
     }
 }
@@ -164,45 +179,52 @@ fn task_of(args: &[String]) -> Option<(Task, &str)>
 }
 
 // Repairs the store in a folder, and writes that it did.
-fn repair_folder<E: Env, O: Write>(
+fn repair_folder<E: Env, C: UserCmp + Copy, FP: FilterPolicy + Copy, O: Write>(
     alloc: Global,
     env: &mut E,
     folder: &str,
-    log: Option<Logger>,
+    opt: Options<C, FP>,
     out: &mut O,
 ) -> Result<(), Status>
-    ensures answered { OnOk result (IsRepairAnswered E.Env folder.now env.old env.new
+    ensures answered { let codings = ⟦<CompressorList as Compressors>⟧.codings in
+        OnOk result (IsRepairAnswered E.Env (choices_of C.Cmp FP.FilterPolicy
+        ⟦<InternalKeyCmp<C> as Cmp>⟧ ⟦<InternalFilterPolicy<FP> as FilterPolicy>⟧ codings) opt
+        (opening_of C.Cmp FP.FilterPolicy codings opt) folder.now env.old env.new
         (O.contents out.old) (O.contents out.new)) }
-    ensures repaired { (ended : Result (Unit {0}) Status)
-        × HasRepaired E.Env folder.now ldb_opening env.old ended env.new }
+    ensures repaired { let codings = ⟦<CompressorList as Compressors>⟧.codings in
+        (ended : Result (Unit {0}) Status) × HasRepaired E.Env (choices_of C.Cmp FP.FilterPolicy
+        ⟦<InternalKeyCmp<C> as Cmp>⟧ ⟦<InternalFilterPolicy<FP> as FilterPolicy>⟧ codings) opt
+        (opening_of C.Cmp FP.FilterPolicy codings opt) folder.now env.old ended env.new }
 {
-    let mut options = Options::default();
-    options.log = log;
-    repair(alloc, folder, env, options)?;
+    repair(alloc, folder, env, opt)?;
     out.write_all(b"repaired\n")?;
     Ok(out.flush()?)
 }
 
 // Runs the commands, and writes the replies that were given.
-fn play<E: Env, O: Write>(
+fn play<E: Env, C: UserCmp + Copy, FP: FilterPolicy + Copy, O: Write>(
     alloc: Global,
     env: &mut E,
     way: Way,
     folder: &str,
-    log: Option<Logger>,
+    opt: Options<C, FP>,
     commands: &[Command],
     out: &mut O,
 ) -> Result<(), Status>
-    ensures played { OnOk result (IsPlayed E.Env way folder.now commands.now env.old env.new
+    ensures played { let codings = ⟦<CompressorList as Compressors>⟧.codings in
+        OnOk result (IsPlayed E.Env (choices_of C.Cmp FP.FilterPolicy ⟦<InternalKeyCmp<C> as Cmp>⟧
+        ⟦<InternalFilterPolicy<FP> as FilterPolicy>⟧ codings) opt
+        (opening_of C.Cmp FP.FilterPolicy codings opt) way folder.now commands.now env.old env.new
         (O.contents out.old) (O.contents out.new)) }
-    ensures run { (given : List Reply) × (ended : Result (Unit {0}) Status)
-        × HasRunBy E.Env way folder.now ldb_opening commands.now env.old given ended
-        env.new }
+    ensures run { let codings = ⟦<CompressorList as Compressors>⟧.codings in
+        (given : List Reply) × (ended : Result (Unit {0}) Status)
+        × HasRunBy E.Env (choices_of C.Cmp FP.FilterPolicy ⟦<InternalKeyCmp<C> as Cmp>⟧
+        ⟦<InternalFilterPolicy<FP> as FilterPolicy>⟧ codings) opt
+        (opening_of C.Cmp FP.FilterPolicy codings opt) way folder.now commands.now env.old given
+        ended env.new }
 {
     let mut replies = Vec::new(alloc);
-    let mut options = Options::default();
-    options.log = log;
-    let played = run_by(way, env, folder, options, commands, &mut replies);
+    let played = run_by(way, env, folder, opt, commands, &mut replies);
     let printed = print(alloc, out, &replies);
     played?;
     printed
@@ -213,19 +235,21 @@ fn run_by<E: Env, C: UserCmp + Copy, FP: FilterPolicy + Copy>(
     way: Way,
     env: &mut E,
     folder: &str,
-    options: Options<C, FP>,
+    opt: Options<C, FP>,
     commands: &[Command],
     replies: &mut Vec<Reply>,
 ) -> Result<(), Status>
-    ensures runs { HasRunBy E.Env way folder.now (opening_of C.Cmp FP.FilterPolicy
-        ⟦<CompressorList as Compressors>⟧.codings options) commands.now env.old
+    ensures runs { let codings = ⟦<CompressorList as Compressors>⟧.codings in
+        HasRunBy E.Env (choices_of C.Cmp FP.FilterPolicy ⟦<InternalKeyCmp<C> as Cmp>⟧
+        ⟦<InternalFilterPolicy<FP> as FilterPolicy>⟧ codings) opt
+        (opening_of C.Cmp FP.FilterPolicy codings opt) way folder.now commands.now env.old
         (drop (length replies.old.items) replies.new.items) result env.new }
     ensures after { (given : List Reply) × (replies.new.items ≡ replies.old.items ++ given)
         × OnOk result (length given ≡ length commands.now) }
 {
     match way {
-        Way::Whole => run(env, folder, options, commands, replies),
-        Way::Alone => run_read_only(env, folder, options, commands, replies),
+        Way::Whole => run(env, folder, opt, commands, replies),
+        Way::Alone => run_read_only(env, folder, opt, commands, replies),
     }
 }
 
