@@ -159,9 +159,9 @@ module _ {E C FP F P : Type 0} {B : Boxed} {keys : InternalOrder C} {key_filters
   Takes row after to =
       FromEachState keys env (formats_of choices) (Some before) from (Some after) to row
 
-  -- A write of these items fails so, and makes no call of the device for its batch: nothing is done;
-  -- or room in the memtable isn't made, and that is all; or it is made, and then memory is out, the
-  -- numbers are used up, or the memtable has too little room.
+  -- A write of these items fails so, and no call of the device is made for its batch: nothing is
+  -- done; or room in the memtable isn't made, and that is all; or it is made, and then memory is out,
+  -- the numbers are used up, or the memtable has too little room.
   abbrev pub AppendsNothing : List Item → Status → EngineOf E C FP F B → E → Type 0
   AppendsNothing items status after to = (to ≡ from)
       ⊎ EngineMakesRoom env choices before from (Err status) after to
