@@ -127,6 +127,7 @@ const ROWS: &[(&str, Change, Opened)] = &[
     (CURRENT, Change::TakenAway, DAMAGED),
     (MANIFEST, Change::Cut(40), DAMAGED),
     (TABLE, Change::TakenAway, DAMAGED),
+    (TABLE, Change::Cut(176), DAMAGED),
     (TABLE, Change::Raised(0), WITHOUT_A),
     (TABLE, Change::Raised(176), WITHOUT_A),
     (LOG, Change::Cut(23), A_ALONE),
@@ -162,6 +163,19 @@ fn a_foreign_file(rt: HostRuntime) -> Result<()> {
     assert!(rt; opens_so(alloc, &mut env, BOTH)?);
     let files = files_on(alloc, &mut env)?;
     assert!(rt; bytes_in(&files, "notes.txt") == Some(b"notes".as_slice()));
+    Ok(())
+}
+
+/// The table has a byte more than its edit says.
+#[test]
+fn a_table_that_is_too_long(rt: HostRuntime) -> Result<()> {
+    let alloc = rt.alloc();
+    let files = sound_files(alloc)?;
+    let mut env = disk_of(alloc, &files)?;
+    let mut table = Vec::from_slice(alloc, bytes_in(&files, TABLE).unwrap_or_default())?;
+    table.push(0)?;
+    put_file(alloc, &mut env, TABLE, &table)?;
+    assert!(rt; opens_so(alloc, &mut env, DAMAGED)?);
     Ok(())
 }
 

@@ -1,10 +1,11 @@
 //! What isn't opened: an opening fails, changes no file but the lock's, and gives back the lock.
 use super::acts::{Act, Setting, is_damaged, play_each};
-use super::stores::Row;
-use leveldb_base::error::{Result, StatusCode};
+use super::stores::{DefaultOptions, Row, STORE, opened, reopen, reusing, store_of};
+use leveldb_base::error::{Result, Status, StatusCode};
 use leveldb_env::mem_env::MemEnv;
+use rusty_leveldb::db_impl::ReadOnlyEngine;
 use std::alloc::Global;
-use support::put_file;
+use support::{answered, file_bytes, put_file};
 
 /// A store that must not be.
 const UNWANTED: &[Act] = &[
@@ -46,6 +47,54 @@ const WITHOUT_A_TABLE: &[Act] = &[
     Act::Delete("db/000004.sst"),
     Act::IsDamaged,
 ];
+
+/// A store whose one live table, of 177 bytes, is cut to this many, or has zeros up to so many.
+fn with_table_of(alloc: Global, size: usize) -> Result<MemEnv> {
+    let mut env = store_of(alloc, &[("a", "1")])?;
+    reopen(alloc, &mut env, reusing(false, true))?;
+    let mut bytes = file_bytes(alloc, &mut env, "000004.ldb")?;
+    bytes.truncate(size);
+    while bytes.len() < size {
+        bytes.push(0)?;
+    }
+    put_file(alloc, &mut env, "000004.ldb", &bytes)?;
+    Ok(env)
+}
+
+/// Whether the status is of damage and has this text, or none.
+fn says(status: &Status, wanted: &str) -> bool {
+    status.code == StatusCode::Corruption
+        && status
+            .err
+            .as_ref()
+            .is_none_or(|text| text.as_str() == wanted)
+}
+
+/// A live table of another size than its edit says is damage, to an opening and to one that only
+/// reads, and the text has both sizes.
+#[test]
+fn a_table_of_another_size(rt: HostRuntime) -> Result<()> {
+    let alloc = rt.alloc();
+    for size in [0, 176, 178, 354] {
+        let mut env = with_table_of(alloc, size)?;
+        assert!(rt; is_damaged(alloc, &mut env)?, "{size}");
+        let wanted = format!(in alloc;
+            "Corruption: db/000004.ldb has {size} bytes, and the manifest says 177"
+        )?;
+        match answered(opened(alloc, &mut env, DefaultOptions::default()))? {
+            Ok(_) => assert!(rt; false, "{size}"),
+            Err(status) => assert!(rt; says(&status, &wanted), "{size}: {status:?}"),
+        }
+        let alone = ReadOnlyEngine::open(alloc, STORE, &mut env, DefaultOptions::default());
+        match answered(alone)? {
+            Ok(_) => assert!(rt; false, "{size}, read alone"),
+            Err(status) => assert!(rt; says(&status, &wanted), "{size}, read alone: {status:?}"),
+        }
+    }
+    let mut env = with_table_of(alloc, 177)?;
+    drop(ReadOnlyEngine::open(alloc, STORE, &mut env, DefaultOptions::default())?);
+    reopen(alloc, &mut env, DefaultOptions::default())
+}
 
 /// A log under another name of its number, which counts where that number is replayed; elsewhere it
 /// is an obsolete file.

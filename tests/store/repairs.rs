@@ -1,12 +1,14 @@
 //! Repairs: what they leave, what is found then, crashes at each of their moments, and calls that fail.
 use super::stores::{
     DefaultOptions, STORE, buffered, files_of, has_files, map_of, put_all, put_log_of, reopen,
+    reusing,
 };
 use leveldb_base::error::{Result, StatusCode};
 use leveldb_disks::mem_env::{MemEnv, Pick, RecordEnv};
 use leveldb_env::env::Env;
 use leveldb_env::infolog::Logger;
 use leveldb_env::options::Options;
+use rusty_leveldb::db_impl::Engine;
 use rusty_leveldb::repair;
 use std::alloc::Global;
 use std::process::Abort;
@@ -335,6 +337,56 @@ fn a_compressor_that_is_not_set(rt: HostRuntime) -> Result<()> {
 }
 
 // ---- crashes and failures
+
+/// A recording disk with a store whose one live table, with a and b, is lost, and c is in a log.
+fn with_lost_table(rt: &impl Abort, alloc: Global) -> Result<RecordEnv> {
+    let mut env = RecordEnv::new(alloc);
+    for (key, value) in PAIRS {
+        let mut engine = Engine::open(alloc, STORE, &mut env, DefaultOptions::default())?;
+        engine.put(&mut env, key.as_bytes(), value.as_bytes())?;
+        engine.compact_range(&mut env, b"", b"")?;
+        engine.abandon(&mut env)?;
+    }
+    put_all(alloc, &mut env, reusing(true, true), &[("c", "3")])?;
+    let names = env.children(alloc, STORE)?;
+    let mut tables: usize = 0;
+    for name in &names {
+        if name.as_str().ends_with(".ldb") {
+            let path = format!(in alloc; "db/{name}")?;
+            env.delete(&path)?;
+            tables += 1;
+        }
+    }
+    assert!(rt; tables == 1);
+    Ok(env)
+}
+
+/// A repair that is cut short over a store whose live table is lost: while `CURRENT` is as it was,
+/// an opening fails, and no table of the repair is taken for the lost one.
+#[test]
+fn crashes_where_a_live_table_was_lost(rt: HostRuntime) -> Result<()> {
+    let alloc = rt.alloc();
+    let mut env = with_lost_table(&rt, alloc)?;
+    let opened = reopen(alloc, &mut env, Options::default());
+    assert!(rt; failed_with(opened, StatusCode::Corruption)?);
+    let current = file_bytes(alloc, &mut env, "CURRENT")?;
+    let first = env.moment();
+    mend(alloc, &mut env)?;
+    let mut refused: usize = 0;
+    for moment in first..=env.moment() {
+        let mut left = left_at(alloc, &env, moment, true, Tails::Whole)?;
+        let is_old = file_bytes(alloc, &mut left, "CURRENT")?.as_slice() == current.as_slice();
+        match found_or_lost(alloc, &mut left)? {
+            Some(map) => assert!(rt; !is_old && map.as_str() == " c=3", "{moment}: {map}"),
+            None => {
+                assert!(rt; is_old, "{moment}");
+                refused += 1;
+            }
+        }
+    }
+    assert!(rt; refused > 10, "{refused}");
+    Ok(())
+}
 
 /// A recording disk with the small store, all of whose bytes a crash keeps.
 fn kept_small(alloc: Global, is_lost: bool) -> Result<RecordEnv> {

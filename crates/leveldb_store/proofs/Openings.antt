@@ -13,6 +13,7 @@ mod OpeningKeptLemmas
 mod OpeningMadeLemmas
 mod OpeningNumbersLemmas
 mod OpeningSameLemmas
+mod TableSizesLemmas
 mod OpeningRecoveredLemmas
 pub mod OpeningFrontLemmas
 mod FoundNumbersLemmas

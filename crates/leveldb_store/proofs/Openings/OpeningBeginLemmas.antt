@@ -1,6 +1,6 @@
 -- A store that was recovered is opened: its logs are replayed, the log to write is opened, and an
 -- edit is logged where one is wanted.
-use Rattle.std.specs.Prelude.{◌≢◌, All, Contains, IfSome, IsSome, IsTrue, OnOk, Result, Ok, Err, max}
+use Rattle.std.specs.Prelude.{◌≢◌, All, Contains, IfSome, IsTrue, OnOk, Result, Ok, Err, max}
 use Rattle.std.proofs.Common.{◌||◌, ◌≡◌, ◌⊎◌, ◌∙◌, ◌<◌, ◌≤◌, ◌^◌, inl, inr, ⊎_elim, ℕ, Bool, true, false, List, Option, None, Some, ap, arith, refl, subst, sym}
 use Rattle.std.proofs.lemmas.List.Elements.{All-contains, All-contains_itself, All-weaker}
 use Rattle.std.specs.Cmp.Lexicographic.{bytes_decides}
@@ -46,7 +46,8 @@ use Rattle.leveldb_store.specs.Keeping.KeptBytes.{HasNewNumbers, LosesNoBytesMea
 use Rattle.leveldb_store.specs.Keeping.OpenStore.{AreInLevels, AreNumbersGiven, HasOwnManifest, OpenStoreValue}
 use Rattle.leveldb_store.specs.Openings.Opening.{SameButTables}
 use Rattle.leveldb_store.specs.Openings.OpeningSteps.{AreDamagedLogs, OpensToWrite, LogsIfWanted, MayBeWritten, OpensLog, ReplaysLogs, WasRecovered, WhyNotBegun, WhyNotReplayed, entries_to_write, files_to_write, made_files, number_to_write, set_to_write, size_to_write}
-use Rattle.leveldb_store.specs.Openings.OpensStore.{AreTablesThere, IsOpenedAs, KeepsFound, SameBesideOwn}
+use Rattle.leveldb_store.specs.Openings.OpensStore.{AreTablesThere, IsOpenedAs, IsTableThere, KeepsFound, SameBesideOwn}
+use Rattle.leveldb_store.proofs.Openings.TableSizesLemmas.{IsSized}
 use Rattle.leveldb_store.specs.Logs.ReplayLog.{HasCauseOr}
 use Rattle.leveldb_store.specs.Writing.Room.{IsFull}
 use Rattle.leveldb_store.specs.Keeping.SoundCall.{BytesAreAppended}
@@ -125,9 +126,9 @@ module _ {E F D FP : Type 0} (env : Ghosts E F) {order : CmpGhosts D} {filters :
   abbrev first : Files
   first = (env.observed from).disk.files
 
-  -- the table of a file is there, whose number is one that a file can have
+  -- the table of a file is there with its size, whose number is one that a file can have
   abbrev HasFile : Files → NewFile → Type 0
-  HasFile files file = (file.number < 2 ^ 64) × IsSome (files (table_path store file.number))
+  HasFile files file = (file.number < 2 ^ 64) × IsTableThere store files file
 
   abbrev Begins : (C : Type 0) → Result (OpenStoreValue C) Status → E → Type 0
   Begins C result to = OpensToWrite env choices store set logs from limit result to
@@ -198,9 +199,9 @@ module _ {E F D FP : Type 0} (env : Ghosts E F) {order : CmpGhosts D} {filters :
             let given : file.number < set.next_file = All-contains (λ (f : NewFile). f.number < set.next_file) set.full.added file may.given c in
             let next = may.fits in
             let fits : file.number < 2 ^ 64 = omega (arith, given, next) in
-            let there : IsSome (first (table_path store file.number)) = All-contains (λ (f : NewFile). IsSome (first (table_path store f.number))) set.full.added file (may.tables modelled) c in (
+            let there : IsTableThere store first file = All-contains (IsTableThere store first) set.full.added file (may.tables modelled) c in (
               fits,
-              subst IsSome (sym ((replays.spares.run modelled).has (table_path store file.number) (λ n least less n_fits is.
+              subst (IsSized file.size) (sym ((replays.spares.run modelled).has (table_path store file.number) (λ n least less n_fits is.
                   let same : file.number ≡ n = (made_paths_apart store file.number n Table Table fits n_fits (is ∙ ap (λ s. table_path s n) may.path)).0 in
                   omega (arith, same, least, given)))) there,
             )
@@ -260,7 +261,7 @@ module _ {E F D FP : Type 0} (env : Ghosts E F) {order : CmpGhosts D} {filters :
             let given : file.number < set1.next_file = All-contains (λ (f : NewFile). f.number < set1.next_file) files file replays.given c in
             let next = replays.spares.fits may.fits in (
               omega (arith, given, next),
-              subst (λ s. IsSome (replayed_files (table_path s file.number))) may.path (made_tables_there format set first logs replay set1 replayed_files (replays.ok modelled) file c),
+              subst (λ s. IsTableThere s replayed_files file) may.path (made_tables_there format set first logs replay set1 replayed_files (replays.ok modelled) file c),
             )
 
     replayed : IsTrue env.models_disk → (meaning : Meaning) → Agrees format meaning → (contents : Contents) → WasRecovered env format store set logs from meaning contents
@@ -335,7 +336,7 @@ module _ {E F D FP : Type 0} (env : Ghosts E F) {order : CmpGhosts D} {filters :
       tables_still modelled files all = All-weaker (HasFile replayed_files) (HasFile log_files)
           (λ file has. (
             has.0,
-            subst IsSome (sym (log_alone replay.used store set2.next_file replayed_files log_files (run2 modelled).has (table_path store file.number)
+            subst (IsSized file.size) (sym (log_alone replay.used store set2.next_file replayed_files log_files (run2 modelled).has (table_path store file.number)
                 (types_apart store (log_path store (number_to_write replay.used set2.next_file)) (table_path store file.number) Log Table
                 (is_log_path store (number_to_write replay.used set2.next_file) opens.number_fits) (is_table_path store file.number has.0) (λ e. cc)))) has.1,
           )) files all
@@ -580,7 +581,7 @@ module _ {E F D FP : Type 0} (env : Ghosts E F) {order : CmpGhosts D} {filters :
                 tables = λ modelled. All-weaker (HasFile (env.observed e2).disk.files) (HasFile (env.observed e3).disk.files)
                     (λ file has. (
                       has.0,
-                      subst IsSome (sym (subst (λ s. (env.observed e3).disk.files (table_path s file.number) ≡ (env.observed e2).disk.files (table_path s file.number)) path3
+                      subst (IsSized file.size) (sym (subst (λ s. (env.observed e3).disk.files (table_path s file.number) ≡ (env.observed e2).disk.files (table_path s file.number)) path3
                           (it.tables modelled (own3 modelled) fits3 file.number has.0))) has.1,
                     )) set4.full.added
                     (All-weaker (λ (file : NewFile). Contains set3.full.added file ⊎ Contains (made_files made) file) (HasFile (env.observed e2).disk.files)
@@ -669,7 +670,7 @@ module _ {E F D FP : Type 0} (env : Ghosts E F) {order : CmpGhosts D} {filters :
               };
               room = not_full_to_write limit replay.used replays.room value.mem is.mem_is;
               tables = λ modelled. subst (λ (s : VersionSetValue). AreTablesThere store (env.observed e3).disk.files s.full.added) (sym is.set_is)
-                  (All-weaker (HasFile (env.observed e3).disk.files) (λ (file : NewFile). IsSome ((env.observed e3).disk.files (table_path store file.number)))
+                  (All-weaker (HasFile (env.observed e3).disk.files) (IsTableThere store (env.observed e3).disk.files)
                   (λ file has. has.1) set4.full.added (is_ended.tables modelled));
               manifest = λ modelled one used.
                   let same = one_in_use one is_ended.used (sym used ∙ ap (λ (s : VersionSetValue). s.manifest) is.set_is ∙ is_ended.is_in_use) in

@@ -1,5 +1,5 @@
 -- What is appended to files while a store is opened are bytes.
-use Rattle.std.specs.Prelude.{Contains, IsSome, IsTrue}
+use Rattle.std.specs.Prelude.{Contains, IsTrue}
 use Rattle.std.proofs.Common.{◌≡◌, inl, inr, ⊎_elim, ℕ, Bool, true, false, List, [], ◌∷◌, Option, None, Some, Result, refl, subst, sym}
 use Rattle.leveldb_base.proofs.EntriesLemmas.{in_map}
 use Rattle.leveldb_base.specs.KeyTypes.{user_part}
@@ -17,7 +17,7 @@ use Rattle.leveldb_version.proofs.Sets.LogKeepsLemmas.{framed_are_bytes}
 use Rattle.leveldb_files.specs.Levels.Levels.{LiveTable}
 use Rattle.leveldb_version.specs.Sets.LogEdit.{LogEditResult, edit_record}
 use Rattle.leveldb_version.specs.Engines.Opening.{tables_edit}
-use Rattle.leveldb_files.specs.Stores.Paths.{log_path, table_path}
+use Rattle.leveldb_files.specs.Stores.Paths.{log_path}
 use Rattle.leveldb_files.specs.Steps.StoreSteps.{AppendedAreBytes}
 use Rattle.leveldb_files.specs.Edits.Edit.{Edit, NewFile}
 use Rattle.leveldb_version.specs.Sets.VersionSetValue.{ManifestState, VersionSetValue, broken, in_use, unmade}
@@ -25,6 +25,8 @@ use Rattle.leveldb_store.proofs.Openings.OpeningEndLemmas.{made_levels_fit}
 use Rattle.leveldb_store.proofs.Keeping.SoundLemmas.{appending_bytes}
 use Rattle.leveldb_files.specs.Stores.Format.{Agrees, Format, Meaning}
 use Rattle.leveldb_store.specs.Openings.OpeningSteps.{AreBeingKept, HasReplayedLogs, LogsIfWanted, OpensLog, RecoversSet, files_to_write, made_files, with_log_kept, with_logs_kept}
+use Rattle.leveldb_store.specs.Openings.OpensStore.{IsTableThere}
+use Rattle.leveldb_store.proofs.Openings.TableSizesLemmas.{IsSized}
 use Rattle.leveldb_store.specs.Keeping.SoundCall.{BytesAreAppended}
 use Rattle.leveldb_store.specs.declared.open_store.OpenLog.{OpenLog}
 use Rattle.leveldb_store.specs.declared.opening.recovered_set.RecoveredSet.{RecoveredSet}
@@ -83,20 +85,19 @@ made_keys_bytes format old from numbers replay new at replays file c =
     let fit = (h.made_tables.each x.0 x.1).3 in
     subst KeysAreBytes x.2 (fit.smallest, fit.largest)
 
--- and each is there, whose number fits
+-- and each is there, as long as its edit says
 pub made_tables_there : {C : Type 0} (format : Format) (old : VersionSetValue) (from : Files)
     (numbers : List ℕ) (replay : Replay C) (new : VersionSetValue) (at : Files)
     → ((meaning : Meaning) → Agrees format meaning
     → HasReplayedLogs format.order meaning old from numbers replay new at)
     → (file : NewFile) → Contains (made_files replay.tables.items) file
-    → IsSome (at (table_path old.store file.number))
+    → IsTableThere old.store at file
 made_tables_there format old from numbers replay new at replays file c =
     let h = replays (own_meaning format) (own_agrees format) in
     let x = in_map (λ (table : LiveTable). table.file) h.tables file
     (subst (λ files. Contains files file) (sym h.files_are) c) in
     let has = (h.made_tables.each x.0 x.1).0 in
-    subst (λ (f : NewFile). IsSome (at (table_path old.store f.number))) x.2
-    (subst IsSome (sym has.there) refl)
+    subst (IsTableThere old.store at) x.2 (subst (IsSized x.0.file.size) (sym has.there) has.size)
 
 -- ---- calls
 

@@ -1,12 +1,12 @@
 -- Why steps of an opening fail.
-use Rattle.std.specs.Prelude.{Contains, IfOk, IsSome, IsTrue, OnOk}
-use Rattle.std.proofs.Common.{◌≡◌, ◌⊎◌, inl, inr, ⊎_elim, ◌+◌, ◌<◌, ℕ, Bool, List, [], ◌∷◌, ◌++◌, None, Ok, Err, Result, get_or, length, sym, take, ◌∙◌, ap, subst}
+use Rattle.std.specs.Prelude.{Contains, IfOk, IfSome, IsSome, IsTrue, OnOk}
+use Rattle.std.proofs.Common.{◌≡◌, ◌⊎◌, inl, inr, ⊎_elim, ◌+◌, ◌<◌, ℕ, Bool, List, [], ◌∷◌, ◌++◌, None, Ok, Err, Result, arith, get_or, length, sym, take, ◌∙◌, ap, subst}
 use Rattle.std.proofs.lemmas.List.Elements.{All-push}
 use Rattle.leveldb_base.specs.Error.{IsOutOfMemory}
 use Rattle.leveldb_base.specs.declared.error.Status.{Status}
 use Rattle.leveldb_base.specs.declared.types.FileMetaData.{FileMetaData}
 use Rattle.leveldb_base.specs.declared.error.StatusCode.TheVariants.{Corruption}
-use Rattle.leveldb_env.specs.Env.{Files, HasCause, IsEmptyFolder, IsMissing, Observed}
+use Rattle.leveldb_env.specs.Env.{Files, HasCause, IsEmptyFolder, IsMissing, Observed, bytes_of}
 use Rattle.leveldb_env.specs.WholeFiles.{IsFoundOr, IsMissingFile}
 use Rattle.leveldb_env.proofs.WholeFilesLemmas.{found_cause, found_ok}
 use Rattle.leveldb_version.proofs.Sets.RecoverLemmas.{cause_of_error}
@@ -15,7 +15,8 @@ use Rattle.leveldb_files.specs.Stores.Paths.{table_path}
 use Rattle.leveldb_files.specs.Edits.Edit.{NewFile}
 use Rattle.leveldb_version.specs.Edits.VersionEdit.{new_file_of}
 use Rattle.leveldb_store.specs.Openings.OpeningSteps.{LacksTable}
-use Rattle.leveldb_store.specs.Openings.OpensStore.{AreTablesThere, IsBareFolder}
+use Rattle.leveldb_store.specs.Openings.OpensStore.{AreTablesThere, IsBareFolder, IsTableThere}
+use Rattle.leveldb_store.proofs.Openings.TableSizesLemmas.{IsSized, missing_unsized, sized_as_found, sized_otherwise}
 use Rattle.leveldb_store.specs.Logs.ReplayLog.{HasCauseOr}
 
 -- a live table is missing
@@ -33,7 +34,8 @@ table_lost {V} {U} models_disk store live file is_live path named start at still
         λ modelled. record {
           file = file;
           is_live = is_live;
-          missing = sym (ap (λ (f : Files). f (table_path store file.number)) (still modelled)) ∙ ap at.disk.files (sym named) ∙ lost.1 modelled;
+          not_there = missing_unsized (start (table_path store file.number)) file.size
+              (sym (ap (λ (f : Files). f (table_path store file.number)) (still modelled)) ∙ ap at.disk.files (sym named) ∙ lost.1 modelled);
         },
       ),
       lost.2,
@@ -48,16 +50,50 @@ table_lost {V} {U} models_disk store live file is_live path named start at still
     P : ℕ → Type 0
     P n = HasCause {T = V} (λ e. IsOutOfMemory e ⊎ (IsMissingFile path e × Kept × (f2 ≡ n))) n f2 (Err status)
 
+-- a live table has another size
+pub table_of_other_size : {U : Type 0} (models_disk : Bool) (store : List ℕ) (live : List NewFile) (file : NewFile) → Contains live file → (path : List ℕ) → path ≡ table_path store file.number
+    → (start : Files) (at : Observed) → (IsTrue models_disk → at.disk.files ≡ start) → (f0 f1 f2 : ℕ) → f1 ≡ f0 → (answer : Result ℕ Status) (size : ℕ) → IsFoundOr path answer (Ok size)
+    → IfOk answer (λ n. IsTrue models_disk → IfSome (at.disk.files path) (λ f. n ≡ length (bytes_of f))) → HasCause (IsMissing models_disk path at) f1 f2 answer → (size ≡ file.size → ⊥)
+    → (status : Status) → status.code ≡ Corruption → HasCauseOr {T = U} (λ e. (e.code ≡ Corruption) × (IsTrue models_disk → LacksTable store start live)) f0 f2 (Err status)
+table_of_other_size models_disk store live file is_live path named start at still f0 f1 f2 same answer size found sizes cause other status code =
+    let is : answer ≡ Ok size = found_ok path answer size found in
+    let counted : f2 ≡ f1 = (subst (λ r. HasCause (IsMissing models_disk path at) f1 f2 r) is cause).ok in
+    let now : IsTrue models_disk → IfSome (at.disk.files path) (λ f. size ≡ length (bytes_of f)) =
+    subst (λ r. IfOk r (λ n. IsTrue models_disk → IfSome (at.disk.files path) (λ f. n ≡ length (bytes_of f)))) is sizes in
+    record {
+      later = omega (arith, same, counted);
+      ok = tt;
+      uncounted = λ why. counted ∙ same;
+      cause = inl (inr (
+        (
+          code,
+          λ modelled. record {
+            file = file;
+            is_live = is_live;
+            not_there = sized_otherwise (start (table_path store file.number)) size file.size
+                (subst (λ (f : Files). IfSome (f (table_path store file.number)) (λ there. size ≡ length (bytes_of there))) (still modelled)
+                (subst (λ p. IfSome (at.disk.files p) (λ there. size ≡ length (bytes_of there))) named (now modelled))) other;
+          },
+        ),
+        counted ∙ same,
+      ));
+    }
+
 -- the tables of the files up to one are there, and so is that of one more whose size was found
-pub tables_more : {V : Type 0} (models_disk : Bool) (store : List ℕ) (files : List (ℕ × FileMetaData)) (i : ℕ) (file : ℕ × FileMetaData) → i < length files → file ≡ get_or files i file
+pub tables_more : (models_disk : Bool) (store : List ℕ) (files : List (ℕ × FileMetaData)) (i : ℕ) (file : ℕ × FileMetaData) → i < length files → file ≡ get_or files i file
     → (path : List ℕ) → path ≡ table_path store file.1.num → (start : Files) (at : Observed) → (IsTrue models_disk → at.disk.files ≡ start)
-    → (answer : Result V Status) (value : V) → IsFoundOr path answer (Ok value) → OnOk answer (IsTrue models_disk → IsSome (at.disk.files path))
+    → (answer : Result ℕ Status) (size : ℕ) → IsFoundOr path answer (Ok size) → IfOk answer (λ n. IsTrue models_disk → IfSome (at.disk.files path) (λ f. n ≡ length (bytes_of f)))
+    → OnOk answer (IsTrue models_disk → IsSome (at.disk.files path)) → size ≡ file.1.size
     → (IsTrue models_disk → AreTablesThere store start (as_new_files (take i files))) → IsTrue models_disk → AreTablesThere store start (as_new_files (take (i + 1) files))
-tables_more models_disk store files i file inside is path named start at still answer value found there before modelled =
-    let P : NewFile → Type 0 = λ one. IsSome (start (table_path store one.number)) in
-    let here : IsSome (at.disk.files path) = subst (λ r. OnOk r (IsTrue models_disk → IsSome (at.disk.files path))) (found_ok path answer value found) there modelled in
-    let it : P (new_file_of file) = subst (λ (f : Files). IsSome (f (table_path store file.1.num))) (still modelled) (subst (λ p. IsSome (at.disk.files p)) named here) in
-    subst (AreTablesThere store start) (sym (files_more files i file inside is)) (All-push P (as_new_files (take i files)) (new_file_of file) (before modelled) it)
+tables_more models_disk store files i file inside is path named start at still answer size found sizes there same before modelled =
+    let ok : answer ≡ Ok size = found_ok path answer size found in
+    let here : IsSome (at.disk.files path) = subst (λ r. OnOk r (IsTrue models_disk → IsSome (at.disk.files path))) ok there modelled in
+    let now : IfSome (at.disk.files path) (λ f. size ≡ length (bytes_of f)) =
+    subst (λ r. IfOk r (λ n. IsTrue models_disk → IfSome (at.disk.files path) (λ f. n ≡ length (bytes_of f)))) ok sizes modelled in
+    let sized : IsSized file.1.size (at.disk.files path) = sized_as_found (at.disk.files path) size file.1.size here now same in
+    let it : IsTableThere store start (new_file_of file) =
+    subst (λ (f : Files). IsSized file.1.size (f (table_path store file.1.num))) (still modelled) (subst (λ p. IsSized file.1.size (at.disk.files p)) named sized) in
+    subst (AreTablesThere store start) (sym (files_more files i file inside is)) (All-push (IsTableThere store start) (as_new_files (take i files)) (new_file_of file) (before modelled) it)
 
 -- a folder has no names
 pub folder_bare : {V U : Type 0} {Why : Status → Type 0} (models_disk : Bool) (store : List ℕ) (at : Observed) (f0 f1 : ℕ) (answer : Result V Status) (status : Status)

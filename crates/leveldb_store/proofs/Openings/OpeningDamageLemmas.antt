@@ -25,6 +25,7 @@ use Rattle.leveldb_mem.proofs.LawsLemmas.{log_laws}
 use Rattle.leveldb_mem.specs.Log.{IsLogFile}
 use Rattle.leveldb_table.specs.Block.{KeysRise, RiseAfter}
 use Rattle.leveldb_files.proofs.Edits.CurrentLemmas.{one_current}
+use Rattle.leveldb_files.proofs.Stores.ManagedLemmas.{SameBytes}
 use Rattle.leveldb_files.proofs.Stores.ManifestLemmas.{one_has_edits}
 use Rattle.leveldb_version.proofs.Sets.RecoverLemmas.{some_and}
 use Rattle.leveldb_files.proofs.Histories.SafeLemmas.{some_is}
@@ -41,6 +42,7 @@ use Rattle.leveldb_version.specs.Engines.Writing.{NumbersAreBelow}
 use Rattle.leveldb_files.specs.Stores.Format.{Format, IsTableOf, Meaning}
 use Rattle.leveldb_store.specs.Openings.OpeningSteps.{HasMisnamedLog, IsReplayed, LacksTable, IsUnsupported}
 use Rattle.leveldb_store.specs.Openings.OpensStore.{HasOtherComparator, IsDamaged, IsOrderFor}
+use Rattle.leveldb_store.proofs.Openings.TableSizesLemmas.{IsSized, sized_still}
 
 -- ---- the keys of a table are a range
 
@@ -157,15 +159,15 @@ module _ (store : List ℕ) (format : Format) (files : Files) where
     damaged_edits none = damaged_by (is_there (files (current_path store)) has.current has.current_there) (λ meaning order contents others for has_others managed.
         none meaning order contents for (subst (λ es. IsManagedBy store order (IsTableOf order meaning) files es contents) (one_has_edits store files others edits has_others has).1 managed))
 
-    -- a live table is missing
-    pub table_missing : (now : Files) → ((path : List ℕ) → files path ≢ None → now path ≢ None) → (live : List NewFile)
+    -- a live table is missing, or has another size
+    pub table_missing : (now : Files) → ((path : List ℕ) → SameBytes (files path) (now path)) → (live : List NewFile)
         → ((file : NewFile) → Contains live file → (live_after edits).file (level_file file) ≡ Some file) → LacksTable store now live → Damaged
-    table_missing now stays live are lacks = damaged_edits (λ meaning order contents for m.
+    table_missing now same live are lacks = damaged_edits (λ meaning order contents for m.
         let all = m.has_tables.all lacks.file (are lacks.file lacks.is_live) in
         let table = (m.has_tables.each all.0 all.1).0 in
-        stays (table_path store lacks.file.number)
-        (λ gone. is_there (files (table_path store all.0.file.number)) table.file table.there (ap (λ (f : NewFile). files (table_path store f.number)) all.2 ∙ gone))
-        lacks.missing)
+        let sized : IsSized all.0.file.size (files (table_path store all.0.file.number)) = subst (IsSized all.0.file.size) (sym table.there) table.size in
+        lacks.not_there (sized_still (files (table_path store lacks.file.number)) (now (table_path store lacks.file.number)) lacks.file.size (same (table_path store lacks.file.number))
+        (subst (λ (f : NewFile). IsSized f.size (files (table_path store f.number))) all.2 sized)))
 
     -- a live table's number isn't below one that all numbers of names are below
     pub number_unlisted : (next : ℕ) → NumbersAreBelow store files next → (live : List NewFile)

@@ -42,7 +42,8 @@ use Rattle.leveldb_store.specs.Keeping.OpenStore.{HasOwnManifest}
 use Rattle.leveldb_store.proofs.Openings.FoundNumbersLemmas.{edits_after}
 use Rattle.leveldb_store.specs.Logs.FoundLogs.{BeginsWithBatches, LogBeginsWith}
 use Rattle.leveldb_store.specs.Openings.OpeningSteps.{AreDamagedLogs, AreLogs, ComesAfterFound, IsRecoveredSet, with_logs_kept}
-use Rattle.leveldb_store.specs.Openings.OpensStore.{AreTablesThere, IsSound}
+use Rattle.leveldb_store.specs.Openings.OpensStore.{AreTablesThere, IsSound, IsTableThere}
+use Rattle.leveldb_store.proofs.Openings.TableSizesLemmas.{sized_still}
 
 not_none : {A : Type 0} (o : Option A) → IsSome o → o ≢ None
 not_none None is none = absurd (cc)
@@ -239,10 +240,11 @@ module _ {E F : Type 0} (env : Ghosts E F) (format : Format) (reuse : Bool) (lim
               (λ gone. let never : Some file ≡ None = sym is ∙ gone in cc) in
               absurd (omega (arith, given, begun_above anew))
 
-      -- its live tables are there
+      -- its live tables are there, as long as its edits say
       pub tables_there : AreTablesThere store last set.full.added
-      tables_there = All-weaker (λ (file : NewFile). IsSome (then_files (table_path store file.number))) (λ (file : NewFile). IsSome (last (table_path store file.number)))
-          (λ file there. still_there then_files last (logs_same_text store logs then_files logs_there) (table_path store file.number) there) set.full.added (r.tables modelled)
+      tables_there = All-weaker (IsTableThere store then_files) (IsTableThere store last)
+          (λ file there. sized_still (then_files (table_path store file.number)) (last (table_path store file.number)) file.size
+          (logs_same_text store logs then_files logs_there (table_path store file.number)) there) set.full.added (r.tables modelled)
 
       -- a log began with the same batches
       pub log_was : (n : ℕ) (batches : List Batch) → LogBeginsWith store last n batches → LogBeginsWith store first n batches

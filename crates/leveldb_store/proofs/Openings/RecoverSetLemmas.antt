@@ -1,5 +1,5 @@
 -- How a version set is recovered at an opening, a step at a time.
-use Rattle.std.specs.Prelude.{All, ◌≢◌, ◌≤◌, ◌^◌, Contains, IfErr, IfOk, IfSome, IsSomeAnd, IsTrue, codes, fold, length}
+use Rattle.std.specs.Prelude.{All, ◌≤◌, ◌^◌, Contains, IfErr, IfOk, IfSome, IsSomeAnd, IsTrue, codes, fold, length}
 use Rattle.std.proofs.Common.{◌≡◌, ◌⊎◌, inl, inr, ⊎_elim, ℕ, ◌<◌, Bool, true, false, List, [], Option, None, Some, Ok, Err, Result, refl, sym, ◌∙◌, ap, subst, arith}
 use Rattle.std.specs.BTreeSet.{BTreeSet}
 use Rattle.std.specs.Option.{unwrap_or}
@@ -13,9 +13,7 @@ use Rattle.leveldb_env.proofs.EnvLemmas.{Run-mono, Run-trans}
 use Rattle.leveldb_env.specs.Env.{BeforeOrAfter, File, Files, FilesUnchanged, HasCause, IsEmptyFolder, ListsChildren, Observed, Run, SameLocks, bytes_of, in_folder, synced}
 use Rattle.leveldb_env.specs.WholeFiles.{IsFoundOr}
 use Rattle.leveldb_env.specs.declared.env.Env.{Ghosts}
-use Rattle.leveldb_files.proofs.Stores.ManagedLemmas.{found_again}
 use Rattle.leveldb_version.proofs.Sets.RecoverLemmas.{cause_of_error}
-use Rattle.leveldb_files.proofs.Steps.StaysLemmas.{synced_same}
 use Rattle.leveldb_version.proofs.Sets.UsableLemmas.{full_of_all}
 use Rattle.leveldb_files.specs.Edits.Current.{IsCurrentText}
 use Rattle.leveldb_version.specs.Edits.FullEdit.{full_after}
@@ -32,7 +30,7 @@ use Rattle.leveldb_store.proofs.Keeping.GivenNumbersLemmas.{below_later}
 use Rattle.leveldb_store.proofs.Openings.FoundNumbersLemmas.{edits_after, few_after_name, few_after_next, names_after}
 use Rattle.leveldb_store.specs.Openings.OpeningSteps.{AreReplayedLogs, ChecksSet, ComesAfterFound, HasMisnamedLog, HasNumber, IsChecked, IsRecoveredSet, IsUnsupported, LacksTable, MarksNames, ReadsSet, RecoversSet, WhyNotRecovered, WhyUnchecked}
 use Rattle.leveldb_store.specs.Openings.OpensStore.{AreTablesThere, HasOtherComparator, IsBareFolder, IsDamaged, SameBesideOwn}
-use Rattle.leveldb_store.proofs.Openings.OpeningSameLemmas.{naming_spares}
+use Rattle.leveldb_store.proofs.Openings.OpeningSameLemmas.{SameText, SameText-refl, naming_spares, sync_same_text}
 use Rattle.leveldb_store.specs.Logs.ReplayLog.{HasCauseOr}
 use Rattle.leveldb_store.specs.declared.opening.recovered_set.RecoveredSet.{RecoveredSet}
 use Rattle.leveldb_store.proofs.Keeping.LevelsApartLemmas.{usable_levels}
@@ -92,21 +90,14 @@ module _ (models_disk : Bool) (format : Format) (reuse : Bool) (limit : ℕ) whe
       (λ (same : Run (FilesUnchanged from.disk.files) from to). inl same)
       (λ (named : (reuse ≡ true) × IsNamed store from.disk.files leaves.manifest leaves.number). inr named.1) leaves.synced_named)
 
-  -- files that were there are there
-  leaves_there : (old : VersionSetValue) (from to : Observed) → Leaves old from to → (path : List ℕ) → from.disk.files path ≢ None → to.disk.files path ≢ None
-  leaves_there old from to leaves path there = ⊎_elim
-      (λ (same : to.disk.files ≡ from.disk.files). subst (λ (f : Files). f path ≢ None) (sym same) there)
-      (λ (sync : to.disk.files ≡ synced manifest from.disk.files). subst (λ (f : Files). f path ≢ None) (sym sync) (by (from.disk.files path) refl))
+  -- each file has the bytes that it had
+  leaves_text : (old : VersionSetValue) (from to : Observed) → Leaves old from to → SameText from.disk.files to.disk.files
+  leaves_text old from to leaves =
+      let manifest : List ℕ = in_folder old.store leaves.manifest in
+      ⊎_elim
+      (λ (same : to.disk.files ≡ from.disk.files). SameText-refl from.disk.files to.disk.files same)
+      (λ (sync : to.disk.files ≡ synced manifest from.disk.files). subst (SameText from.disk.files) (sym sync) (sync_same_text old.store manifest from.disk.files))
       leaves.run.has
-    where
-      manifest : List ℕ
-      manifest = in_folder old.store leaves.manifest
-
-      by : (file : Option File) → from.disk.files path ≡ file → synced manifest from.disk.files path ≢ None
-      by None is = absurd (there is)
-      by (Some file) is =
-          let again = found_again (from.disk.files path) (synced manifest from.disk.files path) file (synced_same old.store format.order (λ bytes pairs. Unit {0}) manifest from.disk.files path) is in
-          λ gone. let never : Some again.now ≡ None = sym again.there ∙ gone in cc
 
 -- ---- why the set isn't recovered
 
@@ -224,7 +215,7 @@ module _ {E F : Type 0} (env : Ghosts E F) (store : List ℕ) (set : VersionSetV
   abbrev pub Checks : Result (BTreeSet ℕ) Status → Type 0
   Checks result = ChecksSet env store set names from result to
 
-  -- a table is missing
+  -- a table is missing, or has another size
   pub tables_missing : {T : Type 0} (live : List NewFile) → live ≡ set.full.added → (status : Status)
       → HasCauseOr {T = T} (λ e. (e.code ≡ Corruption) × (IsTrue env.models_disk → LacksTable store (env.observed from).disk.files live)) (env.failures from) (env.failures to) (Err status) → Checks (Err status)
   tables_missing live are status cause = record {
@@ -380,10 +371,10 @@ module _ {E F : Type 0} (env : Ghosts E F) (format : Format) (exact : IsExactOrd
         below : IsTrue env.models_disk → NumbersAreBelow store (env.observed from).disk.files marked.next_file
         below modelled name n kind is some = marks.used name n kind (listed store (env.observed from).disk.files names (lists modelled) name (no_slash_in_name name n kind is) some) is
 
-        -- files that were there are there
-        still_there : IsTrue env.models_disk → (path : List ℕ) → (env.observed from).disk.files path ≢ None → (env.observed then).disk.files path ≢ None
-        still_there modelled path some = leaves_there env.models_disk format reuse limit marked (env.observed mid) (env.observed then) (made.files modelled) path
-            (subst (λ (f : Files). f path ≢ None) (sym (same_files modelled)) some)
+        -- each file has the bytes that it had
+        same_text : IsTrue env.models_disk → SameText (env.observed from).disk.files (env.observed then).disk.files
+        same_text modelled = subst (λ (f : Files). SameText f (env.observed then).disk.files) (same_files modelled)
+            (leaves_text env.models_disk format reuse limit marked (env.observed mid) (env.observed then) (made.files modelled))
 
         -- the set isn't one of these files
         pub unchecked : {T : Type 0} (status : Status) → HasCauseOr {T = T} (WhyUnchecked env store set names then) (env.failures then) (env.failures to) (Err status) → Recovered (Err status) to
@@ -393,12 +384,12 @@ module _ {E F : Type 0} (env : Ghosts E F) (format : Format) (exact : IsExactOrd
             (λ why. ⊎_elim (λ memory. inl memory) (λ it. inr (inr (inr (inl (it.0.0, set_damaged (λ modelled left. by modelled left it.0.1)))), it.1)) why)
             (λ why. ⊎_elim (λ memory. inl (inl memory)) (λ it. inr it.1) why) cause))
           where
-            -- the table of a live file is missing, or its number isn't given, or a log has another
-            -- name
+            -- the table of a live file isn't there with its size, or its number isn't given, or a log
+            -- has another name
             by : IsTrue env.models_disk → HasLeft marked.next_file set edits
                 → (IsTrue env.models_disk → LacksTable store (env.observed then).disk.files set.full.added) ⊎ (AreNumbersGiven set set.full.added → ⊥)
                 ⊎ HasMisnamedLog names set.log_number set.previous_log → IsDamaged store format (env.observed from).disk.files
-            by modelled left (inl missing) = table_missing store format (env.observed from).disk.files edits (has_edits modelled) (env.observed then).disk.files (still_there modelled) set.full.added
+            by modelled left (inl missing) = table_missing store format (env.observed from).disk.files edits (has_edits modelled) (env.observed then).disk.files (same_text modelled) set.full.added
                 (left_live set edits left set.full.added refl) (missing modelled)
             by modelled left (inr (inl not)) = number_unlisted store format (env.observed from).disk.files edits (has_edits modelled) marked.next_file (below modelled) set.full.added
                 (left_live set edits left set.full.added refl) (λ given. not (below_later marked.next_file set.next_file left.least set.full.added given))

@@ -27,7 +27,7 @@ use Rattle.leveldb_version.specs.Sets.NewManifest.{MakingManifest, with_manifest
 use Rattle.leveldb_version.specs.Sets.NewStore.{first_edit, first_manifest}
 use Rattle.leveldb_files.specs.Stores.Contents.{Contents}
 use Rattle.leveldb_version.specs.Engines.Opening.{tables_edit}
-use Rattle.leveldb_files.specs.Stores.Paths.{current_path, log_path, table_path}
+use Rattle.leveldb_files.specs.Stores.Paths.{current_path, log_path}
 use Rattle.leveldb_version.specs.Sets.Recover.{SyncsManifestAtMost, Recovers}
 use Rattle.leveldb_files.specs.Stores.Store.{HasLog, HasNoStore, ReplayedLog as StoreLog, SameEntries, log_batches, log_entries}
 use Rattle.leveldb_files.specs.Edits.Edit.{IsEncodable, NewFile}
@@ -41,7 +41,7 @@ use Rattle.leveldb_store.specs.Keeping.KeptBytes.{HasNewNumbers, LosesNoBytesMea
 use Rattle.leveldb_store.specs.Keeping.OpenStore.{AreInLevels, AreNumbersGiven, HasOwnManifest, IsUnbroken, OpenStoreValue}
 use Rattle.leveldb_store.specs.Openings.Opening.{AreMadeTables, GivesNumbers, SameButTables}
 use Rattle.leveldb_store.specs.Openings.OpeningState.{HasComparator, IsRecoveredWith, with_comparator}
-use Rattle.leveldb_store.specs.Openings.OpensStore.{AreTablesThere, HasHugeManifest, HasOtherComparator, HasSharedUserKey, IsBareFolder, IsDamaged, IsForbidden, IsForbiddenAs, IsManifestThere, IsNumberFound, IsOpenedAs, IsSound, IsTableOrLog, KeepsFound, LacksCurrent, LacksUsableEdits, LeavesFewNumbers, SameBesideOwn, WhyNotOpenable}
+use Rattle.leveldb_store.specs.Openings.OpensStore.{AreTablesThere, HasHugeManifest, HasOtherComparator, HasSharedUserKey, IsBareFolder, IsDamaged, IsForbidden, IsForbiddenAs, IsManifestThere, IsNumberFound, IsOpenedAs, IsSound, IsTableOrLog, IsTableThere, KeepsFound, LacksCurrent, LacksUsableEdits, LeavesFewNumbers, SameBesideOwn, WhyNotOpenable}
 use Rattle.leveldb_store.specs.Logs.FoundLogs.{HasLogNotKept, LacksNumbersFor, LogBeginsWith, LogsBeginWith}
 use Rattle.leveldb_store.specs.Logs.ReplayLog.{FailsAtLog, HasCauseOr, IsUnusable, MakesTablesOnly, table_files}
 use Rattle.leveldb_store.specs.Writing.Room.{IsFull}
@@ -154,11 +154,11 @@ pub record AddsLog (log previous : ℕ) (name : List ℕ) (old new : List ℕ) :
       ⊎ (IsReplayed log previous n × (name ≡ file_name Log n) × (n < 2 ^ 64))
   pub rising : IsStrictlySortedBy nat_cmp old → IsStrictlySortedBy nat_cmp new
 
--- the table of one of these files is missing
+-- the table of one of these files isn't there, or has another size than its edit says
 pub record LacksTable (store : List ℕ) (files : Files) (live : List NewFile) : Type 0 where
   pub file : NewFile
   pub is_live : Contains live file
-  pub missing : files (table_path store file.number) ≡ None
+  pub not_there : IsTableThere store files file → ⊥
 
 -- ---- syncs
 
@@ -443,16 +443,16 @@ module _ {E F : Type 0} (env : Ghosts E F) where
 
 module _ {E F : Type 0} (env : Ghosts E F) (store : List ℕ) (set : VersionSetValue)
     (names : List (List ℕ)) (from : E) where
-  -- why a set isn't one of these files: the table of a live one is missing, or its number isn't
-  -- given; or a log has another name than its number's
+  -- why a set isn't one of these files: the table of a live one is missing or has another size, or
+  -- its number isn't given; or a log has another name than its number's
   abbrev pub WhyUnchecked : Status → Type 0
   WhyUnchecked status = (status.code ≡ Corruption) × ((IsTrue env.models_disk
       → LacksTable store (env.observed from).disk.files set.full.added)
       ⊎ (AreNumbersGiven set set.full.added → ⊥)
       ⊎ HasMisnamedLog names set.log_number set.previous_log)
 
-  -- The live tables of the set are there, their numbers were given, the next one fits into 64 bits,
-  -- and these are the numbers of the logs that are replayed.
+  -- The live tables of the set are there with their sizes, their numbers were given, the next one
+  -- fits into 64 bits, and these are the numbers of the logs that are replayed.
   pub record IsChecked (logs : List ℕ) : Type 0 where
     pub tables : IsTrue env.models_disk
         → AreTablesThere store (env.observed from).disk.files set.full.added
@@ -499,7 +499,7 @@ module _ {E F : Type 0} (env : Ghosts E F) (format : Format) (reuse : Bool) (lim
     -- the number of each live table was given, and they are in levels
     pub given : AreNumbersGiven set set.full.added
     pub levels : AreInLevels env.models_disk format.order set.full.added
-    -- each live table is there
+    -- each live table is there, as long as its edit says
     pub tables : IsTrue env.models_disk
         → AreTablesThere store (env.observed to).disk.files set.full.added
     pub names : List (List ℕ)
@@ -553,8 +553,8 @@ module _ {E F : Type 0} (env : Ghosts E F) (format : Format) (store : List ℕ) 
 -- ---- the store
 
 -- The set of a store that may be written once its logs are replayed: its numbers fit, those of live
--- tables were given, which are there and in levels in this order of user keys, and it may log
--- edits. Its manifest is in use, unless the next edit begins a new one.
+-- tables were given, which are there with their sizes and in levels in this order of user keys, and
+-- it may log edits. Its manifest is in use, unless the next edit begins a new one.
 pub record MayBeWritten (models_disk : Bool) (order : List ℕ → List ℕ → Ordering)
     (store : List ℕ) (anew : Bool) (set : VersionSetValue) (files : Files) : Type 0 where
   pub path : set.store ≡ store

@@ -1,5 +1,5 @@
 -- What opening a store returns and leaves of its files, and why it fails.
-use Rattle.std.specs.Prelude.{◌≡◌, ◌≢◌, ◌≤◌, ◌+◌, ◌^◌, ◌⊎◌, ℕ, All, Bool, false, List, None, Some, OnOk, IfOk, IsSome, IsSomeAnd, IsTrue, Result, length}
+use Rattle.std.specs.Prelude.{◌≡◌, ◌≢◌, ◌≤◌, ◌+◌, ◌^◌, ◌⊎◌, ℕ, All, Bool, false, List, None, Some, OnOk, IfOk, IsSomeAnd, IsTrue, Result, length}
 use Rattle.std.specs.List.Sorted.{IsStrictlySortedBy}
 use Rattle.std.specs.Ordering.{nat_cmp}
 use Rattle.std.specs.declared.cmp.Ordering.{Ordering}
@@ -81,10 +81,14 @@ module _ (cmp : List ℕ → List ℕ → Ordering) (meaning : Meaning) (store :
         → Holds store (IsStore store cmp (IsTableOf cmp meaning)) (λ it. IsTrue (allowed it)) files
         history contents.last (length history) None
 
--- the table of each of these files is there
+-- the table of this file is there, and has as many bytes as its edit says
+abbrev pub IsTableThere : List ℕ → Files → NewFile → Type 0
+IsTableThere store files file = IsSomeAnd (files (table_path store file.number))
+    (λ there. length (bytes_of there) ≡ file.size)
+
+-- so is the table of each of these files
 abbrev pub AreTablesThere : List ℕ → Files → List NewFile → Type 0
-AreTablesThere store files =
-    All (λ (file : NewFile). IsSome (files (table_path store file.number)))
+AreTablesThere store files = All (IsTableThere store files)
 
 -- the manifest that a set has in use is there
 abbrev pub IsManifestThere : Files → VersionSetValue → Type 0
@@ -230,7 +234,7 @@ module _ {E F : Type 0} (env : Ghosts E F) (store : List ℕ) (format : Format)
     pub unbroken : IfOk result IsUnbroken
     -- the log's memtable isn't full
     pub room : IfOk result (λ value. IsFull limit value.mem → ⊥)
-    -- each live table is there, whatever the files were
+    -- each live table is there, as long as its edit says, whatever the files were
     pub tables : IfOk result (λ value. IsTrue env.models_disk
         → AreTablesThere store (env.observed to).disk.files value.set.full.added)
     -- and so is the manifest

@@ -79,7 +79,7 @@ module _ {E F : Type 0} (env : Ghosts E F) (store : List ℕ) (format : Format) 
     pub alone : IfOk result IsReadAlone
     -- all that the logs have is in the log's memtable
     pub none_waits : IfOk result (λ value. value.imm ≡ None)
-    -- each live table is there, whatever the files were
+    -- each live table is there, as long as its edit says, whatever the files were
     pub tables : IfOk result (λ value. IsTrue env.models_disk
         → AreTablesThere store (env.observed to).disk.files value.set.full.added)
     -- files that are a store with these contents are read as such

@@ -1,6 +1,6 @@
 //! The version set that a store's manifest leaves, with the logs that are replayed.
 // LevelDB: db/db_impl.cc, DBImpl::Recover
-ghost use Rattle.std.specs.Prelude.{◌≡◌, ◌⊎◌, ◌<◌, ◌^◌, ◌↔◌, ℕ, All, IfErr, IfOk, IfSome, IsTrue, OnOk, map};
+ghost use Rattle.std.specs.Prelude.{◌≡◌, ◌⊎◌, ◌<◌, ◌^◌, ◌↔◌, ℕ, All, IfErr, IfOk, IfSome, IsErrAnd, IsTrue, OnOk, map};
 ghost use Rattle.leveldb_base.specs.Error.{IsOutOfMemory};
 ghost use Rattle.leveldb_base.specs.declared.error.StatusCode.TheVariants.{Corruption};
 ghost use Rattle.leveldb_env.specs.Env.{FilesUnchanged, Run, SameLocks};
@@ -16,7 +16,7 @@ ghost use Rattle.leveldb_store.specs.Logs.ReplayLog.{HasCauseOr};
 use super::listing::{ListedFile, list_files};
 use super::logs::find_logs;
 use leveldb_base::cmp::{Cmp, UserCmp};
-use leveldb_base::error::{Result, StatusCode, err};
+use leveldb_base::error::{Result, Status, StatusCode, err};
 use leveldb_base::names::table_file_name;
 use leveldb_base::types::{FileMetaData, FileNum};
 use leveldb_env::compressor::{CompressorList, Compressors};
@@ -37,8 +37,8 @@ pub(super) struct RecoveredSet<E: Env> {
     pub(super) logs: BTreeSet<FileNum>,
 }
 
-// Recovers the set of the manifest that `CURRENT` names. Its live tables are there, and the logs
-// that are replayed have their own names. The folder is listed unless it was.
+// Recovers the set of the manifest that `CURRENT` names. Its live tables are there with their sizes,
+// and the logs that are replayed have their own names. The folder is listed unless it was.
 pub(super) fn recover_set<E: Env, C: UserCmp, FP: FilterPolicy>(
     alloc: Global,
     env: &mut E,
@@ -98,8 +98,8 @@ fn numbered_set<E: Env, C: Cmp>(
     Ok(versions)
 }
 
-// The numbers of the logs that are replayed among these files. The set's live tables are there, and
-// their numbers were given.
+// The numbers of the logs that are replayed among these files. The set's live tables are there with
+// their sizes, and their numbers were given.
 fn logs_to_replay<E: Env>(
     alloc: Global,
     env: &mut E,
@@ -157,7 +157,7 @@ fn mark_numbers<E: Env>(versions: &mut LiveFiles<E>, files: &[ListedFile]) -> Re
     Ok(())
 }
 
-// Checks that each of the tables is there.
+// Checks that each of the tables is there, with as many bytes as its edit says.
 fn check_tables<E: Env>(
     alloc: Global,
     env: &mut E,
@@ -176,9 +176,27 @@ fn check_tables<E: Env>(
 {
     for (_, file) in files {
         let path = table_file_name(alloc, store, file.num)?;
-        found(alloc, &path, env.size_of(&path))?;
+        let size = found(alloc, &path, env.size_of(&path))?;
+        if size != file.size {
+            return other_size(alloc, &path, size, file.size);
+        }
     }
     Ok(())
+}
+
+// An error as `Corruption: db/000009.ldb has 177 bytes, and the manifest says 190`, without the
+// text where there is no memory for it.
+#[cold]
+fn other_size(alloc: Global, path: &str, size: usize, said: usize) -> Result<()>
+    ensures { IsErrAnd result (λ status. status.code ≡ Corruption) }
+{
+    Err(Status {
+        code: StatusCode::Corruption,
+        err: format!(in alloc;
+            "Corruption: {path} has {size} bytes, and the manifest says {said}"
+        )
+        .ok(),
+    })
 }
 
 // Checks that the number of each live table was given. The next one has 64 bits.
