@@ -26,6 +26,7 @@ use Rattle.leveldb_table.specs.TableLaws.{DecodesMore}
 use Rattle.leveldb_files.specs.Stores.Batches.{Each}
 use Rattle.leveldb_files.specs.Stores.Format.{Meaning}
 use Rattle.leveldb_version.specs.Repairs.Found.{HasNoTableNorLog, IsAnyTable}
+use Rattle.leveldb_version.specs.Repairs.Repairing.{IsGreatestInFolder}
 use Rattle.leveldb_store.proofs.Openings.ListingLemmas.{entries_listed}
 use Rattle.leveldb_store.proofs.Openings.OpeningFindLemmas.{listed as named, no_slash_in_name}
 use Rattle.leveldb_store.specs.Tables.BuildTable.{TableChoices}
@@ -35,13 +36,12 @@ use Rattle.leveldb_store.specs.Openings.OpensStore.{IsBareFolder}
 use Rattle.leveldb_store.specs.Logs.ReplayLog.{HasCauseOr}
 use Rattle.leveldb_store.specs.declared.opening.listing.ListedFile.{ListedFile}
 use Rattle.leveldb_repair.proofs.RepairFailsLemmas.{fails_earlier, fails_weaker}
-use Rattle.leveldb_repair.proofs.RepairNumbersLemmas.{greatest_in_folder}
 use Rattle.leveldb_repair.proofs.RepairStoreLemmas.{decodes_by, leaves_then, why_before}
 use Rattle.leveldb_repair.specs.FoundLogs.{FindsLogs, HaveEntry, IsInLog, WhyNotFound}
 use Rattle.leveldb_repair.specs.FoundTables.{AreFoundTables, FindsTables, IsInTable, IsNewWalkOver, IsTablePair, WhyNoTables, entries_of_lists}
 use Rattle.leveldb_repair.specs.FoundWalkLaws.{found_laws}
 use Rattle.leveldb_repair.specs.FoundWalkTable.{FailsBetweenOr, KeepsFound}
-use Rattle.leveldb_repair.specs.Numbers.{IsGreatestNumber}
+use Rattle.leveldb_repair.specs.Numbers.{FindsGreatest, WhyNoNumbers}
 use Rattle.leveldb_repair.specs.RepairSteps.{AreFoundIn, FindsAll}
 use Rattle.leveldb_repair.specs.RepairStore.{WhyNotBegun}
 use Rattle.leveldb_repair.specs.declared.found_walk.files.ReadFiles.{ReadFiles}
@@ -262,6 +262,26 @@ module _ {E C K F FP : Type 0} {order : CmpGhosts (InternalKeyCmp C)} {filters :
         (fails_weaker env at to status (why_no_tables codings_are order_is status)
         (cause_between env {T = Vec (FoundTable E C F) Global} finds.cause))
 
+    -- nor the numbers of manifests
+    why_no_greatest : (status : Status)
+        → WhyNoNumbers env.models_disk store (env.observed at).disk.files listed status
+        → WhyAt status
+    why_no_greatest status (inl (code, missing)) = inr (inr (inr (inr (
+      inl code,
+      λ modelled.
+          let one = missing modelled in
+          absurd (not_missing modelled one.1 (one.0, one.2, one.3) one.4.1),
+    ))))
+    why_no_greatest status (inr (code, never)) =
+        inr (inr (inr (inl (code, λ modelled. absurd (never modelled)))))
+
+    pub no_greatest : {to : E} {status : Status}
+        → FindsGreatest env store listed at (Err status) to → Finds (Err status) to
+    no_greatest {to} {status} finds =
+        why_at (leaves_files env {T = ℕ} finds.still finds.locks finds.cause)
+        (fails_weaker env at to status (why_no_greatest status)
+        (cause_between env {T = ℕ} finds.cause))
+
     -- nor the logs
     why_no_logs : (status : Status)
         → WhyNotFound env.models_disk store (env.observed at).disk.files listed status
@@ -294,7 +314,8 @@ module _ {E C K F FP : Type 0} {order : CmpGhosts (InternalKeyCmp C)} {filters :
       {first : E} (leaves : LeavesFiles env from first)
       (are : AreFilesIn env store from listed)
       (some : Any (λ (file : ListedFile). (file.kind ≡ Table) ⊎ (file.kind ≡ Log)) listed)
-      {greatest : ℕ} (greatest_is : IsGreatestNumber listed greatest)
+      {greatest : ℕ} {start : E} (before : LeavesFiles env from start)
+      (finds_greatest : FindsGreatest env store listed start (Ok greatest) first)
       {tables : Vec (FoundTable E C F) Global} {second : E}
       (finds : FindsTables order env cmp codings compressors compares store listed first (Ok tables)
       second) {logs : Vec (MemTableState C) Global} {to : E}
@@ -377,10 +398,11 @@ module _ {E C K F FP : Type 0} {order : CmpGhosts (InternalKeyCmp C)} {filters :
       leaves = leaves_then env after_tables after_logs;
       ok = record {
         listed = listed;
-        greatest_is = greatest_is;
+        named = finds_greatest.named;
         ordered = finds_logs.order;
         repairs = λ modelled. record {
-          taken_is = greatest_in_folder env store from listed greatest modelled are greatest_is;
+          taken_is = subst (λ (fs : Files). IsGreatestInFolder store fs greatest)
+              (same_at before are modelled) (finds_greatest.greatest modelled (are_at before are));
           some = listed_some env store modelled are some;
         };
         are = are_in;

@@ -23,6 +23,7 @@ use Rattle.leveldb_files.specs.Stores.Batches.{Each}
 use Rattle.leveldb_version.specs.Compactions.Compaction.{files_of_tables}
 use Rattle.leveldb_files.specs.Stores.Format.{Agrees, IsTableOf, Meaning}
 use Rattle.leveldb_files.specs.Levels.Levels.{LiveTable, table_entries}
+use Rattle.leveldb_version.specs.Repairs.Found.{IsNumberOfName}
 use Rattle.leveldb_version.specs.Repairs.Repairing.{HasRepairedTables, IsGreatestInFolder}
 use Rattle.leveldb_files.specs.Stores.Store.{IsInternalPair}
 use Rattle.leveldb_files.specs.Steps.StoreSteps.{IsAboveLogs}
@@ -32,7 +33,6 @@ use Rattle.leveldb_store.specs.Openings.Listing.{AreFilesIn, AreFilesOf, Matches
 use Rattle.leveldb_store.specs.Tables.Outputs.{AreNextNumbers, SameButNewTables}
 use Rattle.leveldb_store.specs.declared.opening.listing.ListedFile.{ListedFile}
 use Rattle.leveldb_repair.specs.LookOver.{AreLookedOver}
-use Rattle.leveldb_repair.specs.Numbers.{IsGreatestNumber}
 use Rattle.leveldb_repair.specs.WriteFound.{HasWritten, files_of_level_one}
 use Rattle.leveldb_repair.specs.declared.look_over.LookedOver.{LookedOver}
 
@@ -177,42 +177,24 @@ module _ {C FP : Type 0} {order : CmpGhosts C} {filters : FilterGhosts FP}
 
 -- ---- the greatest number of a folder
 
--- the greatest number of the files that a folder lists is the greatest that a name there has
-pub greatest_in_folder : {E F : Type 0} (env : EnvGhosts E F) (store : List ℕ) (from : E)
+-- the number of a listed file is that of a name in the folder
+pub number_of_name : {E F : Type 0} (env : EnvGhosts E F) (store : List ℕ) (from : E)
     (listed : List ListedFile) (number : ℕ) → IsTrue env.models_disk
-    → AreFilesIn env store from listed → IsGreatestNumber listed number
-    → IsGreatestInFolder store (env.observed from).disk.files number
-greatest_in_folder env store from listed number modelled in_folder_are is = record {
-  below = is.below store (env.observed from).disk.files names lists are;
-  is = ⊎_elim
-      (λ (zero : number ≡ 0). inl zero)
-      (λ (some : Any (λ (file : ListedFile). file.number ≡ number) listed). inr (named some))
-      is.some;
-}
-  where
-    names : List (List ℕ)
-    names = in_folder_are.0
-
-    lists : ListsChildren (env.observed from).disk.files store names
-    lists = in_folder_are.1 modelled
-
-    are : AreFilesOf names listed
-    are = in_folder_are.2
-
-    named : Any (λ (file : ListedFile). file.number ≡ number) listed
-        → (name : List ℕ) × (kind : FileType) × IsFileName name number kind
-        × ((env.observed from).disk.files (in_folder store name) ≢ None)
-    named some =
-        let file = some.1 in
-        let there : Contains listed file = (some.0, some.2, some.3) in
-        let name = string_bytes file.name in (
-          name,
-          file.kind,
-          subst (λ n. IsFileName name n file.kind) some.4
-              (All-contains MatchesName listed file are.named there),
-          λ none.
-              let some_there : IsSome ((env.observed from).disk.files (in_folder store name)) =
-              ((lists.each name).0 (are.there name
-              (map_in (λ (one : ListedFile). string_bytes one.name) listed file there))).1 in
-              let never : false ≡ true = subst IsSome none some_there in cc,
-        )
+    → AreFilesIn env store from listed
+    → Any (λ (file : ListedFile). file.number ≡ number) listed
+    → IsNumberOfName store (env.observed from).disk.files number
+number_of_name env store from listed number modelled in_folder_are some =
+    let file = some.1 in
+    let are = in_folder_are.2 in
+    let there : Contains listed file = (some.0, some.2, some.3) in
+    let name = string_bytes file.name in (
+      name,
+      file.kind,
+      subst (λ n. IsFileName name n file.kind) some.4
+          (All-contains MatchesName listed file are.named there),
+      λ none.
+          let some_there : IsSome ((env.observed from).disk.files (in_folder store name)) =
+          (((in_folder_are.1 modelled).each name).0 (are.there name
+          (map_in (λ (one : ListedFile). string_bytes one.name) listed file there))).1 in
+          let never : false ≡ true = subst IsSome none some_there in cc,
+    )

@@ -1,17 +1,20 @@
 -- What is found in a store's folder, whether a manifest names it or not: the entries of each table
 -- that is readable, and of each log up to its first bad end, or its first record that is no batch
--- whose numbers entries may have. A repair makes a store of them.
-use Rattle.std.specs.Prelude.{◌≡◌, ◌⊎◌, ◌<◌, ◌≤◌, ◌↔◌, ℕ, List, [], ◌∷◌, ◌++◌, None, Some, Contains}
+-- whose numbers entries may have. A repair makes a store of them. Beside them the numbers of files
+-- that edits of manifests have.
+use Rattle.std.specs.Prelude.{◌≡◌, ◌≢◌, ◌⊎◌, ◌<◌, ◌≤◌, ◌↔◌, ◌+◌, ℕ, List, [], ◌∷◌, ◌++◌, None, Some, Contains}
 use Rattle.std.specs.declared.cmp.Ordering.{Ordering}
 use Rattle.leveldb_base.specs.History.{Entry, greatest}
 use Rattle.leveldb_base.specs.KeyTypes.{greatest_sequence}
 use Rattle.leveldb_base.specs.Names.{IsFileName}
 use Rattle.leveldb_base.specs.Types.{Pair}
-use Rattle.leveldb_base.specs.declared.types.FileType.TheVariants.{Log, Table}
+use Rattle.leveldb_base.specs.declared.types.FileType.{FileType}
+use Rattle.leveldb_base.specs.declared.types.FileType.TheVariants.{Descriptor, Log, Table}
 use Rattle.leveldb_env.specs.Compressor.{Decodes}
 use Rattle.leveldb_env.specs.Env.{File, Files, bytes_of, in_folder}
 use Rattle.leveldb_mem.specs.Log.{End, IsLogFile}
 use Rattle.leveldb_mem.specs.WriteBatch.{Batch}
+use Rattle.leveldb_files.specs.Edits.Edit.{Edit, IsEdit, NewFile}
 use Rattle.leveldb_files.specs.Stores.Batches.{Each, IsRecordOf, all_entries, batch_entries}
 use Rattle.leveldb_files.specs.Stores.Format.{Meaning}
 use Rattle.leveldb_files.specs.Stores.Store.{IsInternalPair, IsStoreTable}
@@ -63,7 +66,59 @@ abbrev pub LogHas : List ℕ → List ℕ → Entry → Type 0
 LogHas name bytes entry = (n : ℕ) × IsFileName name n Log
     × (batches : List Batch) × IsFoundLog bytes batches × Contains (all_entries batches) entry
 
+-- ---- manifests
+
+-- what comes after the edits that are read of a manifest: no record, or first one that is no edit
+abbrev pub IsNoEditNext : List (List ℕ) → Type 0
+IsNoEditNext [] = Unit {0}
+IsNoEditNext (text ∷ rest) = (edit : Edit) → IsEdit text edit → ⊥
+
+-- records begin with those of these edits, up to the first that is no edit
+pub record BeginWithEdits (records : List (List ℕ)) (edits : List Edit) : Type 0 where
+  pub front : List (List ℕ)
+  pub rest : List (List ℕ)
+  pub parts : records ≡ front ++ rest
+  pub each : Each IsEdit front edits
+  pub stops : IsNoEditNext rest
+
+-- The bytes of a manifest are read as these edits: up to its first bad end, or its first record
+-- that is no edit.
+pub record IsFoundManifest (bytes : List ℕ) (edits : List Edit) : Type 0 where
+  pub records : List (List ℕ)
+  pub end : End
+  pub read : IsLogFile bytes records end
+  pub begin : BeginWithEdits records edits
+
+-- one of the files has the number
+abbrev pub IsNumberOfFile : List NewFile → ℕ → Type 0
+IsNumberOfFile files n = (file : NewFile) × Contains files file × (file.number ≡ n)
+
+-- an edit has the number: it is that of a log or of a file that comes, or the one before the next
+abbrev pub IsNumberInEdit : Edit → ℕ → Type 0
+IsNumberInEdit edit n = (edit.log_number ≡ Some n) ⊎ (edit.previous_log ≡ Some n)
+    ⊎ (edit.next_file ≡ Some (n + 1)) ⊎ IsNumberOfFile edit.added n
+
+-- one of the edits has it
+abbrev pub IsNumberInEdits : List Edit → ℕ → Type 0
+IsNumberInEdits edits n = (edit : Edit) × Contains edits edit × IsNumberInEdit edit n
+
+-- an edit of a manifest has it, as far as the manifest is read
+abbrev pub IsNumberInManifest : List ℕ → ℕ → Type 0
+IsNumberInManifest bytes n =
+    (edits : List Edit) × IsFoundManifest bytes edits × IsNumberInEdits edits n
+
 -- ---- the folder
+
+-- a name in the folder has the number
+abbrev pub IsNumberOfName : List ℕ → Files → ℕ → Type 0
+IsNumberOfName store files n = (name : List ℕ) × (kind : FileType) × IsFileName name n kind
+    × (files (in_folder store name) ≢ None)
+
+-- an edit of a manifest in the folder has it
+abbrev pub IsNumberOfManifest : List ℕ → Files → ℕ → Type 0
+IsNumberOfManifest store files n = (name : List ℕ) × (number : ℕ)
+    × IsFileName name number Descriptor × (file : File)
+    × (files (in_folder store name) ≡ Some file) × IsNumberInManifest (bytes_of file) n
 
 -- neither a table nor a log is there: there is nothing to repair
 pub record HasNoTableNorLog (store : List ℕ) (files : Files) : Type 0 where

@@ -8,7 +8,6 @@ use Rattle.std.specs.declared.cmp.Ordering.{Ordering}
 use Rattle.leveldb_base.specs.History.{AreAbove, Entry, SameView, greatest}
 use Rattle.leveldb_base.specs.Names.{IsFileName, file_name}
 use Rattle.leveldb_base.specs.Types.{Pair}
-use Rattle.leveldb_base.specs.declared.types.FileType.{FileType}
 use Rattle.leveldb_base.specs.declared.types.FileType.TheVariants.{Log, Table}
 use Rattle.leveldb_env.specs.Env.{File, Files, FilesCrashTo, bytes_of, in_folder, kept_file, or_empty}
 use Rattle.leveldb_mem.specs.WriteBatch.{Batch}
@@ -17,7 +16,7 @@ use Rattle.leveldb_files.specs.Stores.Contents.{Contents, Store, made}
 use Rattle.leveldb_files.specs.Edits.Current.{current_text}
 use Rattle.leveldb_version.specs.Sets.CurrentFile.{temp_path}
 use Rattle.leveldb_files.specs.Stores.Format.{IsTableOf, Meaning}
-use Rattle.leveldb_version.specs.Repairs.Found.{AreFound, HasNoTableNorLog, IsAnyTable, IsFound, IsFoundLog, IsReadable}
+use Rattle.leveldb_version.specs.Repairs.Found.{AreFound, HasNoTableNorLog, IsAnyTable, IsFound, IsFoundLog, IsNumberOfManifest, IsNumberOfName, IsReadable}
 use Rattle.leveldb_files.specs.Levels.Levels.{AreDisjoint, LiveTable, table_entries}
 use Rattle.leveldb_version.specs.Sets.NewManifest.{MakingManifest, manifest_bytes, with_manifest}
 use Rattle.leveldb_files.specs.Stores.Paths.{current_path, lock_path, manifest_path, table_path}
@@ -58,15 +57,16 @@ repaired_contents comparator tables last = record {
 
 -- ---- while it is made
 
--- this is the greatest number that a name in the folder has, or 0 where none has one
+-- no name in the folder and no edit of a manifest there has a greater number, and one has this, or
+-- it is 0
 pub record IsGreatestInFolder (store : List ℕ) (files : Files) (number : ℕ) : Type 0 where
   pub below : NumbersAreBelow store files (number + 1)
-  pub is : (number ≡ 0) ⊎ ((name : List ℕ) × (kind : FileType) × IsFileName name number kind
-      × (files (in_folder store name) ≢ None))
+  pub edits : (n : ℕ) → IsNumberOfManifest store files n → n ≤ number
+  pub is : (number ≡ 0) ⊎ IsNumberOfName store files number ⊎ IsNumberOfManifest store files number
 
--- A repair of the old files is being made, in whose names `taken` is the greatest number. No file
--- has changed but the manifest of the number after it, with its temporary file, the tables of the
--- numbers after that and below the next, `CURRENT` and the lock's file.
+-- A repair of the old files is being made, in whose names and manifests `taken` is the greatest
+-- number. No file has changed but the manifest of the number after it, with its temporary file, the
+-- tables of the numbers after that and below the next, `CURRENT` and the lock's file.
 pub record IsAmidRepair (store : List ℕ) (taken next : ℕ) (old now : Files) : Type 0 where
   pub taken_is : IsGreatestInFolder store old taken
   pub others : (path : List ℕ)
