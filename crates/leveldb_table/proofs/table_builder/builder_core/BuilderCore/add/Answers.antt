@@ -33,11 +33,11 @@ invariant_of-self-inside-2 g c =
     let same = c.self-2.view_is in
     let after = c.self-2.inside in
     let mid : TableBuilt g.row.C.Denot g.row.FP.Denot = record { block = after.block; index = after.index; filter = after.filter; offset = after.offset; count = after.count; broken = after.broken; compressor = after.compressor; block_size = after.block_size } in
-    let made = rw (← same) at c.in_ok-make_room.ensures in (
+    let ready = rw (← same) at c.in_ok-make_room.ensures.room.1 in (
       (c.in_ok-add.ensures.ok.1, after.started.1),
       (
         λ _. rw (c.in_ok-add.ensures.order, c.in_ok-add.ensures.interval, c.in_ok-add.ensures.ok.0.pairs, c.in_ok-add_key.ensures.ok, c.in_ok-self-inside.ensures.ok)
-            (sound_added (stage mid) c.args.key.now c.args.value.now made.room.1.0 made.room.1.1),
+            (sound_added (stage mid) c.args.key.now c.args.value.now ready.0 ready.1),
         tt,
       ),
     )
@@ -96,7 +96,9 @@ returns-clause-ok g c =
     let same = c.self-2.view_is in
     let after = c.self-2.inside in
     let mid : TableBuilt g.row.C.Denot g.row.FP.Denot = record { block = after.block; index = after.index; filter = after.filter; offset = after.offset; count = after.count; broken = after.broken; compressor = after.compressor; block_size = after.block_size } in
-    let made = rw (← same) at c.in_ok-make_room.ensures in
+    let made = c.in_ok-make_room.ensures in
+    let all_laid = rw (← same) at made.ok.laid in
+    let room = rw (← same) at made.room in
     let old = c.self.inside in
     let requires = rw (← c.self.view_is) at c.requires in
     let unbroken = rw (← c.self.view_is) at c.in_ok-check_unbroken.ensures.ok in
@@ -107,19 +109,19 @@ returns-clause-ok g c =
         bytes = made.ok.bytes;
         put = made.ok.put;
         begun = λ written pairs begun.
-            let laid = made.ok.laid written pairs begun in
+            let laid = all_laid written pairs begun in
             rw (c.in_ok-add.ensures.order, c.in_ok-add.ensures.interval, choices.same_order, c.in_ok-add.ensures.ok.0.pairs, c.in_ok-add_key.ensures.ok, c.in_ok-self-inside.ensures.ok, choices.same_compressor)
             (laid_added _ (g.C.Cmp.accepts old.block.cmp) (g.C.Cmp.cmp old.block.cmp) (g.C.Cmp.shortest_sep old.block.cmp) g.FP.FilterPolicy.filter_for g.FP.FilterPolicy.matches keeps
-            (stage mid) c.args.key.now c.args.value.now (written ++ made.ok.bytes) pairs (requires.accepted unbroken) laid.1 made.room.1.0.filtered
+            (stage mid) c.args.key.now c.args.value.now (written ++ made.ok.bytes) pairs (requires.accepted unbroken) laid.1 room.1.0.filtered
             (rw (sym choices.same_policy) at laid.0));
       };
       full = λ full.
-          elim made.room.0 [
+          elim room.0 [
             | inl left ↦ absurd (left.0 full)
             | inr closed ↦ c.in_ok-add.ensures.ok.0.pairs ∙ ap (λ entries. pairs_of None entries ++ (c.args.key.now, c.args.value.now) ∷ []) closed.1
           ];
       closed = λ full.
-          elim made.room.0 [
+          elim room.0 [
             | inl left ↦ absurd (left.0 full)
             | inr (is, empty, bytes, put, closes) ↦
                 record {
@@ -131,13 +133,13 @@ returns-clause-ok g c =
                 }
           ];
       stored = λ full none. (made.unset full none).0;
-      room = λ room.
-          elim made.room.0 [
+      room = λ not_full.
+          elim room.0 [
             | inl left ↦ (
               rw (c.in_ok-add.ensures.interval, c.in_ok-add.ensures.ok.0.pairs, c.in_ok-add_key.ensures.ok, c.in_ok-self-inside.ensures.ok) (ap (with_pair (c.args.key.now, c.args.value.now)) left.1),
               left.3,
             )
-            | inr closed ↦ absurd (room closed.0)
+            | inr closed ↦ absurd (not_full closed.0)
           ];
       last = rw (c.in_ok-add.ensures.ok.0.pairs) (last_pushed (pairs_of None mid.block.entries) (c.args.key.now, c.args.value.now));
       count = c.in_ok-self-inside.ensures.ok ∙ ap (λ n. n + 1) (ap (λ builder. builder.count) c.self-2.view_is ∙ c.make_room.ensures.still.0);
