@@ -38,8 +38,8 @@ returns-in_default-clause-compacts g c = record {
 
 pub returns-in_default-clause-does : goal.returns-in_default-clause-does
 returns-in_default-clause-does g c = record {
-  logged = search rules;
-  removes = search rules;
+  logged = rw c.in_default.is tt;
+  removes = rw c.in_default.is tt;
   none = λ is. (refl, refl, refl, refl);
   err = tt;
 }
