@@ -8,6 +8,7 @@ import shutil
 
 TOP = pathlib.Path(__file__).resolve().parent.parent
 FLAGS = ["--jobs", "1"]
+OVER = "--over="
 # a check's line on a function: its name, its state, and more of it
 STATE = re.compile(r"^fn (\S+): (proved|not proved|no proof)(.*)$", re.MULTILINE)
 # what a proof file says where it names what an edit took away, which tells nothing of a goal
@@ -34,9 +35,27 @@ def crate_named(rt, name):
     return next((it for it in rt.rtlib.crates_below(str(TOP)) if it.name == name), None)
 
 
+def over_in(words):
+    """Returns the folder that `--over=FOLDER` names, or none, and the other words."""
+    folders = [os.path.abspath(it.removeprefix(OVER)) for it in words if it.startswith(OVER)]
+    return folders[-1] if folders else None, [it for it in words if not it.startswith(OVER)]
+
+
 def build_below(crate):
     """Builds the libraries below the crate that aren't built, and returns whether all are."""
     return not any(it.build_rlib(FLAGS, anew=False) for it in crate.below())
+
+
+def take_below(crate, over):
+    """Has checks of the crate read the libraries below it in the folder `over`, or else where `build_below` builds them. Returns whether all are there."""
+    for it in crate.below():
+        it.rlib = f"{over or f'{TOP}/crates/{it.name}/out/rlib'}/{it.name}.rlib"
+    return all(os.path.isdir(it.rlib) for it in crate.below())
+
+
+def has_below(crate, over):
+    """Returns whether the libraries below the crate are ready for its checks: those in the folder `over`, or else those that it builds where they aren't built."""
+    return take_below(crate, over) if over else build_below(crate)
 
 
 def read_edits(file):
