@@ -9,7 +9,7 @@ use leveldb_base::error::{Result, StatusCode};
 use leveldb_disks::mem_env::RecordEnv;
 use leveldb_env::env::Env;
 use leveldb_repair::repair_store::repair_store;
-use leveldb_version::version_set::VersionSet;
+use leveldb_version_set::version_set::VersionSet;
 use std::alloc::Global;
 use support::{failed_with, files_on, put_file};
 

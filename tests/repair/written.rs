@@ -12,7 +12,7 @@ use leveldb_env::options::Options;
 use leveldb_repair::write_found::{set_above, write_found};
 use leveldb_table::cache::Cache;
 use leveldb_table::table_reader::Table;
-use leveldb_version::version_set::VersionSet;
+use leveldb_version_set::version_set::VersionSet;
 use std::alloc::Global;
 use support::failed_with;
 

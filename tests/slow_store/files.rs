@@ -11,7 +11,7 @@ use leveldb_env::env::whole_files::read_file;
 use leveldb_mem::log::read_log_file;
 use leveldb_mem::write_batch::WriteBatch;
 use leveldb_version::version_edit::VersionEdit;
-use leveldb_version::version_set::parse_current_text;
+use leveldb_version_set::version_set::parse_current_text;
 use slow_history::Entry;
 use std::alloc::Global;
 use std::cmp::Ordering;

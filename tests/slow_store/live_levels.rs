@@ -3,7 +3,7 @@ use leveldb_base::cmp::DefaultCmp;
 use leveldb_base::error::Result;
 use leveldb_env::env::Env;
 use leveldb_env::options::Options;
-use leveldb_version::version_set::VersionSet;
+use leveldb_version_set::version_set::VersionSet;
 use std::alloc::Global;
 
 /// The levels of the live files of a store's manifest. No file changes.

@@ -16,7 +16,7 @@ use leveldb_store::merge_tables::{Cuts, MergePlan, merge_tables};
 use leveldb_store::outputs::Outputs;
 use leveldb_version::table_cache::{ReadTables, TableCache};
 use leveldb_version::version::Version;
-use leveldb_version::version_set::VersionSet;
+use leveldb_version_set::version_set::VersionSet;
 use std::alloc::Global;
 use std::process::Abort;
 use support::{Random, ShortReads, damage_file, failed_with};

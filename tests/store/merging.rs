@@ -16,7 +16,7 @@ use leveldb_env::filter::BloomPolicy;
 use leveldb_iter::in_memory::InMemory;
 use leveldb_store::merge_tables::{Cuts, MergePlan, merge_tables};
 use leveldb_store::passing::MergeLevels;
-use leveldb_version::version_set::VersionSet;
+use leveldb_version_set::version_set::VersionSet;
 use std::alloc::Global;
 use std::process::Abort;
 use support::{Listed, Random, failed_with};

@@ -16,7 +16,7 @@ use leveldb_store::outputs::Outputs;
 use leveldb_table::cache::Cache;
 use leveldb_table::table_builder::builder_core::BuilderCore;
 use leveldb_table::table_reader::Table;
-use leveldb_version::version_set::VersionSet;
+use leveldb_version_set::version_set::VersionSet;
 use rusty_leveldb::db_impl::build_memtable;
 use std::alloc::Global;
 use std::process::Abort;

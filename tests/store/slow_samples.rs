@@ -8,7 +8,7 @@ use leveldb_base::error::Result;
 use leveldb_base::types::FileNum;
 use leveldb_env::mem_env::MemEnv;
 use leveldb_env::options::Options;
-use leveldb_version::version_set::VersionSet;
+use leveldb_version_set::version_set::VersionSet;
 use rusty_leveldb::Snapshot;
 use std::alloc::Global;
 use std::process::Abort;

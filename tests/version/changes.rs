@@ -11,7 +11,7 @@ use leveldb_env::mem_env::MemEnv;
 use leveldb_env::options::Options;
 use leveldb_version::version::{GetStats, Version};
 use leveldb_version::version_edit::VersionEdit;
-use leveldb_version::version_set::{VersionSet, manifest_file_name};
+use leveldb_version_set::version_set::{VersionSet, manifest_file_name};
 use std::alloc::Global;
 use std::process::Abort;
 use support::{Random, failed_with};

@@ -9,7 +9,7 @@ use leveldb_env::env::Env;
 use leveldb_env::env::whole_files::read_file;
 use leveldb_env::options::Options;
 use leveldb_version::version_edit::VersionEdit;
-use leveldb_version::version_set::{make_store, read_current_file};
+use leveldb_version_set::version_set::{make_store, read_current_file};
 use std::alloc::Global;
 use std::process::Abort;
 use support::failed_with;

@@ -5,8 +5,8 @@ use super::choices::{NUMBER, Row, key_at, pointer, read_often, row, taken, versi
 use leveldb_base::cmp::DefaultCmp;
 use leveldb_base::error::Result;
 use leveldb_base::types::FileNum;
-use leveldb_version::compaction::Compaction;
-use leveldb_version::compaction::pick::{compact_range, needs_compaction, pick_compaction};
+use leveldb_version_set::compaction::Compaction;
+use leveldb_version_set::compaction::pick::{compact_range, needs_compaction, pick_compaction};
 use leveldb_version::version::Version;
 use leveldb_version::version_edit::CompactionPointer;
 use std::alloc::Global;

@@ -8,7 +8,7 @@ use leveldb_disks::mem_env::{MemEnv, RecordEnv};
 use leveldb_env::env::Env;
 use leveldb_env::options::Options;
 use leveldb_mem::log::LogWriter;
-use leveldb_version::version_set::VersionSet;
+use leveldb_version_set::version_set::VersionSet;
 use std::alloc::Global;
 use std::process::Abort;
 use support::failed_with;

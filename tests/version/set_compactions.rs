@@ -19,7 +19,7 @@ use leveldb_iter::walk::Walk;
 use leveldb_version::table_cache::ReadTables;
 use leveldb_version::version::GetStats;
 use leveldb_version::version_edit::VersionEdit;
-use leveldb_version::version_set::Compaction;
+use leveldb_version_set::version_set::Compaction;
 use std::alloc::Global;
 use std::process::Abort;
 use support::Random;

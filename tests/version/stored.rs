@@ -4,7 +4,7 @@ use leveldb_base::error::Result;
 use leveldb_env::env::Env;
 use leveldb_env::options::Options;
 use leveldb_version::version_edit::VersionEdit;
-use leveldb_version::version_set::{VersionSet, make_store};
+use leveldb_version_set::version_set::{VersionSet, make_store};
 use std::alloc::Global;
 
 /// A device, and a version set for the store `db` on it.

@@ -5,7 +5,7 @@ use leveldb_base::types::FileNum;
 use leveldb_disks::mem_env::{MemEnv, RecordEnv};
 use leveldb_env::env::Env;
 use leveldb_env::env::whole_files::read_file;
-use leveldb_version::version_set::{read_current_file, set_current_file};
+use leveldb_version_set::version_set::{read_current_file, set_current_file};
 use std::alloc::Global;
 use std::process::Abort;
 use support::failed_with;

@@ -6,7 +6,7 @@ use leveldb_base::error::{Result, StatusCode};
 use leveldb_base::names::{current_file_name, manifest_file_name, temp_file_name};
 use leveldb_base::types::{FileMetaData, FileNum};
 use leveldb_version::version_edit::VersionEdit;
-use leveldb_version::version_set::{check_key_ranges, current_text, parse_current_text};
+use leveldb_version_set::version_set::{check_key_ranges, current_text, parse_current_text};
 use std::alloc::Global;
 use std::process::Abort;
 use support::failed_with;

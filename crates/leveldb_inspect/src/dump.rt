@@ -15,7 +15,7 @@ use leveldb_base::error::Result;
 use leveldb_base::names::file_name_parts;
 use leveldb_base::types::FileType;
 use leveldb_env::env::{Env, Sink};
-use leveldb_version::version_set::parse_current_text;
+use leveldb_version_set::version_set::parse_current_text;
 use std::alloc::Global;
 
 // More bytes of `CURRENT` aren't read: a name of a manifest has at most 29.

@@ -13,7 +13,7 @@ use leveldb_base::names::file_name_parts;
 use leveldb_base::types::{FileMetaData, FileNum, FileType};
 use leveldb_env::env::{Env, Sink};
 use leveldb_version::version_edit::VersionEdit;
-use leveldb_version::version_set::read_current_file;
+use leveldb_version_set::version_set::read_current_file;
 use std::alloc::Global;
 use std::collections::{BTreeMap, BTreeSet};
 

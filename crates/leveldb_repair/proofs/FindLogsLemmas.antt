@@ -20,12 +20,12 @@ use Rattle.leveldb_env.specs.declared.env.Env.{Ghosts}
 use Rattle.leveldb_mem.specs.MemTable.{MemTableState}
 use Rattle.leveldb_mem.specs.WriteBatch.{Batch}
 use Rattle.leveldb_files.proofs.Stores.BatchesLemmas.{each_more}
-use Rattle.leveldb_version.proofs.Repairs.FoundLemmas.{one_found_log}
+use Rattle.leveldb_version_set.proofs.Repairs.FoundLemmas.{one_found_log}
 use Rattle.leveldb_files.proofs.Stores.LogsLemmas.{all_append}
 use Rattle.leveldb_files.proofs.Stores.OneStoreLemmas.{flat_in, in_flat}
-use Rattle.leveldb_version.proofs.Sets.RecoverLemmas.{cause_of_error}
+use Rattle.leveldb_version_set.proofs.Sets.RecoverLemmas.{cause_of_error}
 use Rattle.leveldb_files.specs.Stores.Batches.{Each, all_entries, batch_entries}
-use Rattle.leveldb_version.specs.Repairs.Found.{IsFoundLog}
+use Rattle.leveldb_version_set.specs.Repairs.Found.{IsFoundLog}
 use Rattle.leveldb_store.proofs.Logs.NextFoundLemmas.{has_begun_at, has_found_none, has_found_same}
 use Rattle.leveldb_store.proofs.Openings.OpeningFindLemmas.{listed, no_slash_in_log}
 use Rattle.leveldb_store.specs.Openings.Listing.{AreFilesIn, MatchesName}

@@ -32,10 +32,10 @@ use Rattle.leveldb_table.specs.TableLaws.{DecodesMore}
 use Rattle.leveldb_files.proofs.Stores.BatchesLemmas.{each_more}
 use Rattle.leveldb_files.proofs.Stores.ManagedLemmas.{same_name}
 use Rattle.leveldb_files.proofs.Stores.OneStoreLemmas.{flat_in, in_flat}
-use Rattle.leveldb_version.proofs.Sets.RecoverLemmas.{cause_of_error}
+use Rattle.leveldb_version_set.proofs.Sets.RecoverLemmas.{cause_of_error}
 use Rattle.leveldb_files.specs.Stores.Batches.{Each}
 use Rattle.leveldb_files.specs.Stores.Format.{Meaning}
-use Rattle.leveldb_version.specs.Repairs.Found.{IsAnyTable}
+use Rattle.leveldb_version_set.specs.Repairs.Found.{IsAnyTable}
 use Rattle.leveldb_files.specs.Stores.Paths.{table_path}
 use Rattle.leveldb_files.specs.Stores.Store.{IsStoreTable}
 use Rattle.leveldb_store.proofs.Openings.OpeningFindLemmas.{listed, no_slash_in_name}

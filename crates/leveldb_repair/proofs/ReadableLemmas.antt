@@ -17,7 +17,7 @@ use Rattle.leveldb_version.proofs.Tables.NewestLemmas.{entries_are}
 use Rattle.leveldb_files.proofs.Stores.StoreTablesLemmas.{store_tables_by_more}
 use Rattle.leveldb_files.specs.Stores.Batches.{Each}
 use Rattle.leveldb_files.specs.Stores.Format.{Meaning}
-use Rattle.leveldb_version.specs.Repairs.Found.{IsAnyTable, IsReadable}
+use Rattle.leveldb_version_set.specs.Repairs.Found.{IsAnyTable, IsReadable}
 use Rattle.leveldb_files.specs.Stores.Store.{IsInternalPair, any_user_key}
 use Rattle.leveldb_repair.specs.FoundTables.{AreNumberedPairs}
 

@@ -10,13 +10,13 @@ use Rattle.leveldb_base.specs.Types.{Pair}
 use Rattle.leveldb_env.specs.Env.{File, Files, FilesCrashTo, bytes_of}
 use Rattle.leveldb_files.proofs.Stores.KeptLemmas.{kept_left}
 use Rattle.leveldb_files.proofs.Stores.OneStoreLemmas.{flat_in}
-use Rattle.leveldb_version.proofs.Repairs.RepairingFoundLemmas.{crash_leaves_found, found_stays, table_is_readable}
+use Rattle.leveldb_version_set.proofs.Repairs.RepairingFoundLemmas.{crash_leaves_found, found_stays, table_is_readable}
 use Rattle.leveldb_files.proofs.Histories.SafeLemmas.{some_is}
 use Rattle.leveldb_files.specs.Stores.Format.{Agrees, Format, IsTableOf, Meaning}
-use Rattle.leveldb_version.specs.Repairs.Found.{IsAnyTable, IsFound, IsReadable}
+use Rattle.leveldb_version_set.specs.Repairs.Found.{IsAnyTable, IsFound, IsReadable}
 use Rattle.leveldb_files.specs.Levels.Levels.{LiveTable, table_entries}
 use Rattle.leveldb_files.specs.Stores.Paths.{table_path}
-use Rattle.leveldb_version.specs.Repairs.Repairing.{SameFound}
+use Rattle.leveldb_version_set.specs.Repairs.Repairing.{SameFound}
 use Rattle.leveldb_files.specs.Stores.Store.{HasTable, SameEntries}
 use Rattle.leveldb_files.specs.Steps.StoreSteps.{IsKept}
 use Rattle.leveldb_repair.proofs.RepairStoreLemmas.{decodes_by}

@@ -25,7 +25,7 @@ use Rattle.leveldb_table.specs.TableBlock.{HasLackCode}
 use Rattle.leveldb_table.specs.TableLaws.{DecodesMore}
 use Rattle.leveldb_files.specs.Stores.Batches.{Each}
 use Rattle.leveldb_files.specs.Stores.Format.{Meaning}
-use Rattle.leveldb_version.specs.Repairs.Found.{HasNoTableNorLog, IsAnyTable}
+use Rattle.leveldb_version_set.specs.Repairs.Found.{HasNoTableNorLog, IsAnyTable}
 use Rattle.leveldb_store.proofs.Openings.ListingLemmas.{entries_listed}
 use Rattle.leveldb_store.proofs.Openings.OpeningFindLemmas.{listed as named, no_slash_in_name}
 use Rattle.leveldb_store.specs.Tables.BuildTable.{TableChoices}

@@ -16,7 +16,7 @@ use Rattle.leveldb_iter.specs.Merge.{IsPairOf}
 use Rattle.leveldb_iter.specs.Walk.{KeyOrder}
 use Rattle.leveldb_mem.specs.MemTable.{MemTableState}
 use Rattle.leveldb_files.proofs.Stores.OneStoreLemmas.{flat_in}
-use Rattle.leveldb_version.specs.Repairs.Found.{AreFound, IsFound}
+use Rattle.leveldb_version_set.specs.Repairs.Found.{AreFound, IsFound}
 use Rattle.leveldb_repair.proofs.RepairClashLemmas.{AreOfOneNumber, HaveClash, clash_differs}
 use Rattle.leveldb_repair.proofs.RepairMergeLemmas.{AreOfEntries, listed_of_entry, memory_lists}
 use Rattle.leveldb_repair.specs.FoundLogs.{HaveEntry, IsInLog}

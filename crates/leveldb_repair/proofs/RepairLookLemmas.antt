@@ -21,7 +21,7 @@ use Rattle.leveldb_iter.specs.declared.walk.Walk.{Ghosts as WalkGhosts}
 use Rattle.leveldb_table.specs.TableBlock.{HasLackCode}
 use Rattle.leveldb_files.proofs.Stores.OneStoreLemmas.{flat_in}
 use Rattle.leveldb_files.specs.Stores.Format.{Agrees, Format, Meaning}
-use Rattle.leveldb_version.specs.Repairs.Found.{IsAnyTable, IsFound}
+use Rattle.leveldb_version_set.specs.Repairs.Found.{IsAnyTable, IsFound}
 use Rattle.leveldb_store.specs.Tables.BuildTable.{TableChoices}
 use Rattle.leveldb_repair.proofs.RepairClashLemmas.{AreUnlikeDeletions, HaveClash, clash_differs}
 use Rattle.leveldb_repair.proofs.RepairFailsLemmas.{fails_weaker}

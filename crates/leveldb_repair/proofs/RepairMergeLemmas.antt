@@ -18,7 +18,7 @@ use Rattle.leveldb_files.proofs.Histories.NumbersLemmas.{placed_above, up_to}
 use Rattle.leveldb_files.proofs.Stores.OneStoreLemmas.{flat_in, in_flat}
 use Rattle.leveldb_version.proofs.Versions.PairwiseLemmas.{each_second}
 use Rattle.leveldb_files.specs.Stores.Batches.{Each, batch_entries}
-use Rattle.leveldb_version.specs.Repairs.Found.{AreFound, IsFound, IsNumberedBatch, LogHas, TableHas}
+use Rattle.leveldb_version_set.specs.Repairs.Found.{AreFound, IsFound, IsNumberedBatch, LogHas, TableHas}
 use Rattle.leveldb_files.specs.Stores.Store.{IsInternalPair}
 use Rattle.leveldb_repair.specs.FoundLogs.{HaveEntry, IsInLog}
 

@@ -20,10 +20,10 @@ use Rattle.leveldb_env.specs.declared.env.Env.{Ghosts as EnvGhosts}
 use Rattle.leveldb_env.specs.declared.filter.FilterPolicy.{Ghosts as FilterGhosts}
 use Rattle.leveldb_files.proofs.Stores.ManagedLemmas.{kinds_apart}
 use Rattle.leveldb_files.specs.Stores.Batches.{Each}
-use Rattle.leveldb_version.specs.Compactions.Compaction.{files_of_tables}
+use Rattle.leveldb_version_set.specs.Compactions.Compaction.{files_of_tables}
 use Rattle.leveldb_files.specs.Stores.Format.{Agrees, IsTableOf, Meaning}
 use Rattle.leveldb_files.specs.Levels.Levels.{LiveTable, table_entries}
-use Rattle.leveldb_version.specs.Repairs.Repairing.{HasRepairedTables, IsGreatestInFolder}
+use Rattle.leveldb_version_set.specs.Repairs.Repairing.{HasRepairedTables, IsGreatestInFolder}
 use Rattle.leveldb_files.specs.Stores.Store.{IsInternalPair}
 use Rattle.leveldb_files.specs.Steps.StoreSteps.{IsAboveLogs}
 use Rattle.leveldb_files.specs.Edits.Edit.{NewFile}

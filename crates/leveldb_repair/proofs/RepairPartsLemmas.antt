@@ -21,10 +21,10 @@ use Rattle.leveldb_files.proofs.Stores.StoreTablesLemmas.{store_tables_by_more}
 use Rattle.leveldb_files.specs.Steps.StoreSteps.{IsKept}
 use Rattle.leveldb_files.specs.Stores.Format.{Agrees, IsTableOf, Meaning}
 use Rattle.leveldb_files.specs.Stores.Paths.{table_path}
-use Rattle.leveldb_version.proofs.Repairs.RepairingFoundLemmas.{crash_leaves_found, filters_are_ignored, found_stays}
+use Rattle.leveldb_version_set.proofs.Repairs.RepairingFoundLemmas.{crash_leaves_found, filters_are_ignored, found_stays}
 use Rattle.leveldb_version.proofs.Tables.NewestLemmas.{entries_are}
-use Rattle.leveldb_version.specs.Repairs.Found.{IsAnyTable, IsFound, IsReadable}
-use Rattle.leveldb_version.specs.Repairs.Repairing.{SameFound}
+use Rattle.leveldb_version_set.specs.Repairs.Found.{IsAnyTable, IsFound, IsReadable}
+use Rattle.leveldb_version_set.specs.Repairs.Repairing.{SameFound}
 use Rattle.leveldb_store.proofs.Compactions.MergedMadeLemmas.{BuildsForStore}
 use Rattle.leveldb_store.specs.Tables.BuildTable.{TableChoices}
 use Rattle.leveldb_store.specs.Tables.TableParts.{IsBuiltOf, IsSameOrPart, IsTablePart}

@@ -24,7 +24,7 @@ use Rattle.leveldb_mem.specs.MemTable.{MemTableState}
 use Rattle.leveldb_files.proofs.Stores.OneStoreLemmas.{flat_in}
 use Rattle.leveldb_version.proofs.Versions.SearchLemmas.{all_from_contains}
 use Rattle.leveldb_files.specs.Stores.Batches.{Each}
-use Rattle.leveldb_version.specs.Repairs.Found.{IsAnyTable}
+use Rattle.leveldb_version_set.specs.Repairs.Found.{IsAnyTable}
 use Rattle.leveldb_store.specs.Tables.BuildTable.{TableChoices}
 use Rattle.leveldb_store.specs.Writing.Switch.{AreFileNumbersTooFew}
 use Rattle.leveldb_store.specs.Reading.View.{IsOverMemory, any_in_order}

@@ -29,19 +29,19 @@ use Rattle.leveldb_iter.specs.Walk.{key_order}
 use Rattle.leveldb_iter.specs.declared.walk.Walk.{Ghosts as WalkGhosts}
 use Rattle.leveldb_table.specs.TableBlock.{HasLackCode}
 use Rattle.leveldb_files.proofs.Stores.ManagedLemmas.{kinds_apart}
-use Rattle.leveldb_version.proofs.Repairs.RepairingKeepsLemmas.{manifests_go_on}
-use Rattle.leveldb_version.proofs.Repairs.RepairingLemmas.{manifest_repairs}
+use Rattle.leveldb_version_set.proofs.Repairs.RepairingKeepsLemmas.{manifests_go_on}
+use Rattle.leveldb_version_set.proofs.Repairs.RepairingLemmas.{manifest_repairs}
 use Rattle.leveldb_version.proofs.Versions.SearchLemmas.{all_from_contains}
 use Rattle.leveldb_version.proofs.Edits.VersionEditLemmas.{is_encodable}
-use Rattle.leveldb_version.specs.Compactions.Compaction.{files_of_tables}
-use Rattle.leveldb_version.specs.Sets.CurrentFile.{temp_path}
+use Rattle.leveldb_version_set.specs.Compactions.Compaction.{files_of_tables}
+use Rattle.leveldb_version_set.specs.Sets.CurrentFile.{temp_path}
 use Rattle.leveldb_files.specs.Stores.Format.{Agrees, IsTableOf, Meaning}
-use Rattle.leveldb_version.specs.Repairs.Found.{AreFound, IsAnyTable}
-use Rattle.leveldb_version.specs.Sets.NewManifest.{MakingManifest, with_manifest}
-use Rattle.leveldb_version.specs.Sets.NewStore.{MakesManifest}
-use Rattle.leveldb_version.specs.Engines.Opening.{FitsEdit}
+use Rattle.leveldb_version_set.specs.Repairs.Found.{AreFound, IsAnyTable}
+use Rattle.leveldb_version_set.specs.Sets.NewManifest.{MakingManifest, with_manifest}
+use Rattle.leveldb_version_set.specs.Sets.NewStore.{MakesManifest}
+use Rattle.leveldb_version_set.specs.Engines.Opening.{FitsEdit}
 use Rattle.leveldb_files.specs.Stores.Paths.{current_path, lock_path, table_path}
-use Rattle.leveldb_version.specs.Repairs.Repairing.{IsGreatestInFolder, IsRepairedStore, IsAmidRepair, ManifestRepairs, repaired_edit, repaired_manifest}
+use Rattle.leveldb_version_set.specs.Repairs.Repairing.{IsGreatestInFolder, IsRepairedStore, IsAmidRepair, ManifestRepairs, repaired_edit, repaired_manifest}
 use Rattle.leveldb_files.specs.Edits.Edit.{Edit, IsEncodable, NewFile, file_order}
 use Rattle.leveldb_version.specs.Edits.VersionEdit.{new_file_of}
 use Rattle.leveldb_store.specs.Tables.BuildTable.{TableChoices}

@@ -10,7 +10,7 @@ use Rattle.leveldb_env.specs.declared.env.Env.{Ghosts}
 use Rattle.leveldb_mem.specs.MemTable.{GrowsByAll, IsUnion, MemTableState, bytes_in, memory_of_entries}
 use Rattle.leveldb_mem.specs.WriteBatch.{Batch}
 use Rattle.leveldb_files.specs.Stores.Batches.{Each, all_entries, batch_entries}
-use Rattle.leveldb_version.specs.Repairs.Found.{LogHas}
+use Rattle.leveldb_version_set.specs.Repairs.Found.{LogHas}
 use Rattle.leveldb_store.specs.Openings.Listing.{AreFilesIn}
 use Rattle.leveldb_store.specs.Logs.NextFound.{BeginsAt, HasEntryNumbers, IsFoundAt}
 use Rattle.leveldb_store.specs.Logs.ReplayLog.{HasCauseOr}

@@ -23,7 +23,7 @@ use Rattle.leveldb_table.specs.TableBlock.{HasLackCode, ReadsFile}
 use Rattle.leveldb_table.specs.TableLaws.{DecodesMore}
 use Rattle.leveldb_files.specs.Stores.Batches.{Each}
 use Rattle.leveldb_files.specs.Stores.Format.{Meaning}
-use Rattle.leveldb_version.specs.Repairs.Found.{IsAnyTable, IsReadable, TableHas}
+use Rattle.leveldb_version_set.specs.Repairs.Found.{IsAnyTable, IsReadable, TableHas}
 use Rattle.leveldb_files.specs.Stores.Store.{IsInternalPair}
 use Rattle.leveldb_store.specs.Openings.Listing.{AreFilesIn, MatchesName}
 use Rattle.leveldb_store.specs.Logs.ReplayLog.{HasCauseOr}

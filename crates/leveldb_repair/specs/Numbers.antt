@@ -1,7 +1,7 @@
 -- The numbers that the names of a store's files have.
 use Rattle.std.specs.Prelude.{◌≡◌, ◌⊎◌, ◌≤◌, ◌+◌, ℕ, List, All, Any}
 use Rattle.leveldb_env.specs.Env.{Files, ListsChildren}
-use Rattle.leveldb_version.specs.Engines.Writing.{NumbersAreBelow}
+use Rattle.leveldb_version_set.specs.Engines.Writing.{NumbersAreBelow}
 use Rattle.leveldb_store.specs.Openings.Listing.{AreFilesOf}
 use Rattle.leveldb_store.specs.declared.opening.listing.ListedFile.{ListedFile}
 

@@ -7,10 +7,10 @@ use Rattle.leveldb_base.specs.declared.cmp.Cmp.{Ghosts as CmpGhosts}
 use Rattle.leveldb_env.specs.Env.{File, Files, FilesCrashTo, bytes_of}
 use Rattle.leveldb_env.specs.declared.filter.FilterPolicy.{Ghosts as FilterGhosts}
 use Rattle.leveldb_files.specs.Stores.Format.{Agrees, Format, Meaning}
-use Rattle.leveldb_version.specs.Repairs.Found.{IsAnyTable, IsReadable}
+use Rattle.leveldb_version_set.specs.Repairs.Found.{IsAnyTable, IsReadable}
 use Rattle.leveldb_files.specs.Levels.Levels.{table_entries}
 use Rattle.leveldb_files.specs.Stores.Paths.{table_path}
-use Rattle.leveldb_version.specs.Repairs.Repairing.{SameFound}
+use Rattle.leveldb_version_set.specs.Repairs.Repairing.{SameFound}
 use Rattle.leveldb_files.specs.Stores.Store.{SameEntries}
 use Rattle.leveldb_files.specs.Steps.StoreSteps.{IsKept}
 use Rattle.leveldb_store.specs.Tables.BuildTable.{TableChoices}

@@ -23,8 +23,8 @@ use Rattle.leveldb_table.specs.TableBlock.{HasLackCode}
 use Rattle.leveldb_table.specs.TableLaws.{DecodesMore}
 use Rattle.leveldb_files.specs.Stores.Batches.{Each}
 use Rattle.leveldb_files.specs.Stores.Format.{Agrees, Format, Meaning}
-use Rattle.leveldb_version.specs.Repairs.Found.{AreFound, HasNoTableNorLog, IsAnyTable}
-use Rattle.leveldb_version.specs.Repairs.Repairing.{IsGreatestInFolder}
+use Rattle.leveldb_version_set.specs.Repairs.Found.{AreFound, HasNoTableNorLog, IsAnyTable}
+use Rattle.leveldb_version_set.specs.Repairs.Repairing.{IsGreatestInFolder}
 use Rattle.leveldb_store.specs.Tables.BuildTable.{TableChoices}
 use Rattle.leveldb_store.specs.Compactions.Merging.{BearsNewTables, LeavesFiles, MovesLeaveFiles}
 use Rattle.leveldb_store.specs.Reading.View.{IsOverMemory}

@@ -18,10 +18,10 @@ use Rattle.leveldb_table.specs.ReadableTable.{HasUndecodedBlock}
 use Rattle.leveldb_table.specs.TableBlock.{HasLackCode}
 use Rattle.leveldb_table.specs.TableLaws.{DecodesMore}
 use Rattle.leveldb_files.specs.Stores.Format.{Agrees, Format, IsTableOf, Meaning}
-use Rattle.leveldb_version.specs.Repairs.Found.{AreFound, HasNoTableNorLog, IsAnyTable, IsFound}
+use Rattle.leveldb_version_set.specs.Repairs.Found.{AreFound, HasNoTableNorLog, IsAnyTable, IsFound}
 use Rattle.leveldb_files.specs.Levels.Levels.{LiveTable, table_entries}
 use Rattle.leveldb_files.specs.Stores.Paths.{current_path}
-use Rattle.leveldb_version.specs.Repairs.Repairing.{IsGreatestInFolder, IsRepairedStore, IsAmidRepair}
+use Rattle.leveldb_version_set.specs.Repairs.Repairing.{IsGreatestInFolder, IsRepairedStore, IsAmidRepair}
 use Rattle.leveldb_store.specs.Tables.BuildTable.{AreSomeNotBuilt, TableChoices}
 use Rattle.leveldb_store.specs.Tables.TableParts.{HaveTableParts}
 use Rattle.leveldb_store.specs.Openings.Listing.{MatchesName}

@@ -15,12 +15,12 @@ use Rattle.leveldb_env.specs.declared.filter.FilterPolicy.{Ghosts as FilterGhost
 use Rattle.leveldb_iter.specs.Walk.{key_order}
 use Rattle.leveldb_iter.specs.declared.walk.Walk.{Ghosts as WalkGhosts}
 use Rattle.leveldb_files.specs.Stores.Batches.{Each}
-use Rattle.leveldb_version.specs.Compactions.Compaction.{files_of_tables}
-use Rattle.leveldb_version.specs.Sets.CurrentVersion.{VersionsValue, new_versions}
+use Rattle.leveldb_version_set.specs.Compactions.Compaction.{files_of_tables}
+use Rattle.leveldb_version_set.specs.Sets.CurrentVersion.{VersionsValue, new_versions}
 use Rattle.leveldb_files.specs.Stores.Format.{Agrees, IsTableOf, Meaning}
 use Rattle.leveldb_files.specs.Levels.Levels.{LiveTable, table_entries}
-use Rattle.leveldb_version.specs.Engines.Opening.{FitsEdit}
-pub use Rattle.leveldb_version.specs.Repairs.Repairing.{AreLevelOne}
+use Rattle.leveldb_version_set.specs.Engines.Opening.{FitsEdit}
+pub use Rattle.leveldb_version_set.specs.Repairs.Repairing.{AreLevelOne}
 use Rattle.leveldb_files.specs.Stores.Store.{IsInternalPair}
 use Rattle.leveldb_files.specs.Edits.Edit.{NewFile}
 use Rattle.leveldb_version.specs.Edits.VersionEdit.{new_file_of}

@@ -18,7 +18,7 @@ use leveldb_env::options::Options;
 use leveldb_iter::walk::Walk;
 use leveldb_store::merge_tables::{Cuts, MergePlan, merge_tables};
 use leveldb_store::passing::MergeLevels;
-use leveldb_version::version_set::VersionSet;
+use leveldb_version_set::version_set::VersionSet;
 use std::alloc::Global;
 
 /// A version set of no files for a store under this path, whose next number is the second one above

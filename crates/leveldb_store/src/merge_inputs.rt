@@ -12,7 +12,7 @@ use leveldb_iter::merging_iter::MergeCore;
 use leveldb_iter::walk::Walk;
 use leveldb_version::table_cache::{ReadTables, ReadsTables};
 use leveldb_version::version::Version;
-use leveldb_version::version_set::InputWalk;
+use leveldb_version_set::version_set::InputWalk;
 use std::alloc::Global;
 
 /// The walk over all entries of the tables of a version's files, as those that a compaction takes,

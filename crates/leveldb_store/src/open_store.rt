@@ -22,7 +22,7 @@ use leveldb_base::types::{FileNum, SequenceNumber};
 use leveldb_env::env::Env;
 use leveldb_mem::log::LogFile;
 use leveldb_mem::memtable::MemTable;
-use leveldb_version::version_set::VersionSet;
+use leveldb_version_set::version_set::VersionSet;
 use std::alloc::Global;
 use std::marker::Model;
 pub use view::StoreView;
@@ -77,7 +77,7 @@ impl<E: Env, C: Cmp> Model for OpenStore<E, C> {
     ghost use Rattle.std.specs.Option.{option_map};
     ghost use Rattle.leveldb_base.specs.History.{AreUpTo};
     ghost use Rattle.leveldb_files.specs.Stores.Paths.{log_path};
-    ghost use Rattle.leveldb_version.specs.Sets.VersionSetValue.{unmade};
+    ghost use Rattle.leveldb_version_set.specs.Sets.VersionSetValue.{unmade};
     ghost use Rattle.leveldb_store.specs.Keeping.OpenStore.{AreInLevels, AreNumbersGiven, HasOwnManifest, OpenStoreValue};
 
     ghost Value = { OpenStoreValue C };

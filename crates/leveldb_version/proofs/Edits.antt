@@ -2,4 +2,3 @@
 pub mod VersionEditLemmas
 pub mod FieldsLemmas
 pub mod FullEditLemmas
-pub mod FilesInOrderLemmas

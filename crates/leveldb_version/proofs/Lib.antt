@@ -1,9 +1,5 @@
 pub mod Edits
-pub mod Sets
 pub mod Versions
 pub mod Tables
 pub mod Walks
-pub mod Compactions
-pub mod Engines
-pub mod Repairs
 pub mod ExitLemmas

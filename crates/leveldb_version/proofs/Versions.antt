@@ -8,3 +8,6 @@ pub mod GetLemmas
 pub mod DisjointLemmas
 pub mod PairwiseLemmas
 pub mod SamplingLemmas
+pub mod DeeperLevelsLemmas
+pub mod BaseLevelLemmas
+pub mod ScoresLemmas

@@ -2,4 +2,3 @@
 pub mod VersionEdit
 pub mod Fields
 pub mod FullEdit
-pub mod FilesInOrder

@@ -3,3 +3,5 @@ pub mod Version
 pub mod Change
 pub mod Search
 pub mod Sampling
+pub mod DeeperLevels
+pub mod Scores

@@ -1,10 +1,9 @@
-//! Versions: which files make up a store at a moment, and the edits and names that keep them.
+//! Versions: which files make up a store at a moment, by levels, the edits that change them, and
+//! look-ups and walks through their tables.
 #![tactic(auto)]
 
-pub mod compaction;
 pub mod laws;
 pub mod table_cache;
 pub mod version;
 pub mod version_edit;
 pub mod version_iter;
-pub mod version_set;

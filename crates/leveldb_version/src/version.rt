@@ -9,7 +9,6 @@ ghost use Rattle.leveldb_files.specs.Levels.Summary.{files_of_level, summary_tex
 ghost use Rattle.leveldb_version.specs.Versions.Version.{AreInVersionOrder, FilesFit, IsVersionOf, at_level, borrowed_files, charged, new_files_of};
 ghost use Rattle.leveldb_version.specs.Edits.VersionEdit.{new_file_of};
 
-use crate::version_set::summary_of;
 use leveldb_base::cmp::{Cmp, UserCmp};
 use leveldb_base::error::Result;
 use leveldb_base::key_types::{InternalKey, UserKey, split_sequence};
@@ -28,6 +27,7 @@ mod overlap;
 mod score;
 mod search;
 mod seeks;
+mod summary;
 
 pub use crate::version_iter::{VersionIter, new_version_iter};
 use find::file_with_key;
@@ -35,8 +35,9 @@ use key_range::KeyRange;
 pub use order::total_size;
 use order::{part_of_level, sort_files};
 use overlap::{files_in, is_overlapped, overlap_size, widen};
-pub(crate) use score::product;
+pub use score::product;
 use seeks::{has_last_seek, take_seek, with_first_seeks};
+pub use summary::summary_of;
 
 /// The file that a look-up charges with a seek, if one: its level and number.
 #[derive(Clone, Copy, Debug, PartialEq)]

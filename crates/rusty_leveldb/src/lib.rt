@@ -34,6 +34,5 @@ pub use leveldb_table::{
     block, block_builder, block_cache, cache, laws as table_laws, table_block, table_builder,
     table_reader,
 };
-pub use leveldb_version::{
-    compaction, laws as version_laws, table_cache, version, version_edit, version_iter, version_set,
-};
+pub use leveldb_version::{table_cache, version, version_edit, version_iter};
+pub use leveldb_version_set::{compaction, laws as version_laws, version_set};

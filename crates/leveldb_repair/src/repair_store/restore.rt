@@ -7,7 +7,7 @@ ghost use Rattle.leveldb_repair.specs.RepairStore.{RepairsStore};
 ghost use Rattle.leveldb_repair.specs.WriteFound.{files_of_level_one};
 ghost use Rattle.leveldb_store.specs.Tables.BuildTable.{choices_of};
 ghost use Rattle.leveldb_store.specs.Compactions.Merging.{LeavesFiles};
-ghost use Rattle.leveldb_version.specs.Repairs.Repairing.{repaired_edit};
+ghost use Rattle.leveldb_version_set.specs.Repairs.Repairing.{repaired_edit};
 ghost use Rattle.leveldb_version.specs.Edits.VersionEdit.{edit_of};
 
 use crate::found_walk::{FoundTable, FoundWalk, ReadFiles, ReadsFound};
@@ -23,7 +23,7 @@ use leveldb_env::options::Options;
 use leveldb_iter::merging_iter::MergeCore;
 use leveldb_iter::walk::Walk;
 use leveldb_version::version_edit::VersionEdit;
-use leveldb_version::version_set::{VersionSet, make_manifest_of};
+use leveldb_version_set::version_set::{VersionSet, make_manifest_of};
 use std::alloc::Global;
 
 // What a store is made with: its folder and options, and the greatest number of a name there.

@@ -17,16 +17,16 @@ use Rattle.leveldb_base.specs.KeyTypes.{internal_cmp, user_part}
 use Rattle.leveldb_base.specs.declared.error.Status.{Status}
 use Rattle.leveldb_env.specs.Env.{Files}
 use Rattle.leveldb_version.proofs.Versions.ChangeLemmas.{IsPermutation-filter}
-use Rattle.leveldb_version.proofs.Compactions.PickingLemmas.{asking_has_files}
-use Rattle.leveldb_version.proofs.Compactions.ScoresLemmas.{scores_tell_level}
+use Rattle.leveldb_version_set.proofs.Compactions.PickingLemmas.{asking_has_files}
+use Rattle.leveldb_version.proofs.Versions.ScoresLemmas.{scores_tell_level}
 use Rattle.leveldb_version.proofs.Versions.SearchLemmas.{kept_passes}
-use Rattle.leveldb_version.specs.Sets.CurrentVersion.{IsCurrent}
+use Rattle.leveldb_version_set.specs.Sets.CurrentVersion.{IsCurrent}
 use Rattle.leveldb_files.specs.Stores.Format.{IsTableOf, Meaning}
-use Rattle.leveldb_version.specs.Compactions.Inputs.{AreOrdered}
+use Rattle.leveldb_version_set.specs.Compactions.Inputs.{AreOrdered}
 use Rattle.leveldb_files.specs.Levels.Levels.{LiveTable}
-use Rattle.leveldb_version.specs.Sets.LogEdit.{set_appended}
-use Rattle.leveldb_version.specs.Compactions.Picking.{CompactionValue, IsAskedFor, IsCompactionOf, asking_file, file_after, file_by_reads, used_pointer}
-use Rattle.leveldb_version.specs.Compactions.Scores.{level_by_score, level_limit, level_load}
+use Rattle.leveldb_version_set.specs.Sets.LogEdit.{set_appended}
+use Rattle.leveldb_version_set.specs.Compactions.Picking.{CompactionValue, IsAskedFor, IsCompactionOf, asking_file, file_after, file_by_reads, used_pointer}
+use Rattle.leveldb_version.specs.Versions.Scores.{level_by_score, level_limit, level_load}
 use Rattle.leveldb_files.specs.Stores.Store.{HasTable}
 use Rattle.leveldb_files.specs.Levels.Summary.{files_of_level}
 use Rattle.leveldb_version.specs.Versions.Version.{VersionValue, new_files_of}

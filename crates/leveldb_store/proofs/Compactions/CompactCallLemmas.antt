@@ -12,17 +12,17 @@ use Rattle.leveldb_env.specs.Env.{SameLocks}
 use Rattle.leveldb_env.specs.declared.env.Env.{Ghosts}
 use Rattle.leveldb_env.specs.declared.filter.FilterPolicy.{Ghosts as FilterGhosts}
 use Rattle.leveldb_version.specs.Versions.Change.{IsVersionAfter}
-use Rattle.leveldb_version.specs.Compactions.Compaction.{MayCompact}
-use Rattle.leveldb_version.specs.Compactions.CompactionEdit.{compaction_edit}
-use Rattle.leveldb_version.specs.Sets.CurrentVersion.{IsCurrent}
+use Rattle.leveldb_version_set.specs.Compactions.Compaction.{MayCompact}
+use Rattle.leveldb_version_set.specs.Compactions.CompactionEdit.{compaction_edit}
+use Rattle.leveldb_version_set.specs.Sets.CurrentVersion.{IsCurrent}
 use Rattle.leveldb_version.specs.Edits.FullEdit.{files_after}
-use Rattle.leveldb_version.specs.Sets.LogEdit.{AppendsEdit, WritesBytes}
-use Rattle.leveldb_version.specs.Compactions.Picking.{CompactionValue, DeletesFiles, IsCompactionOf, OnlyPoints}
+use Rattle.leveldb_version_set.specs.Sets.LogEdit.{AppendsEdit, WritesBytes}
+use Rattle.leveldb_version_set.specs.Compactions.Picking.{CompactionValue, DeletesFiles, IsCompactionOf, OnlyPoints}
 use Rattle.leveldb_version.specs.Tables.TableCache.{TableOptions}
 use Rattle.leveldb_version.specs.Versions.Version.{VersionValue, new_files_of}
 use Rattle.leveldb_files.specs.Edits.Edit.{Edit, LevelFile, LevelsFit, NewFile}
 use Rattle.leveldb_version.specs.Edits.VersionEdit.{edit_of, new_file_of}
-use Rattle.leveldb_version.specs.Sets.VersionSetValue.{OpenManifest, VersionSetValue, in_use, unmade}
+use Rattle.leveldb_version_set.specs.Sets.VersionSetValue.{OpenManifest, VersionSetValue, in_use, unmade}
 use Rattle.leveldb_version.specs.declared.table_cache.TableCache.{TableCache}
 use Rattle.leveldb_version.specs.declared.version_edit.VersionEdit.{VersionEdit}
 use Rattle.leveldb_store.proofs.Compactions.CompactEditLemmas.{compaction_keeps_levels, compaction_levels, edit_made, replaces_files}

@@ -11,20 +11,20 @@ use Rattle.std.specs.declared.cmp.Ordering.{Ordering}
 use Rattle.leveldb_base.proofs.EntriesLemmas.{in_map, map_in}
 use Rattle.leveldb_base.proofs.HistoryLemmas.{in_front, in_none, in_rest}
 use Rattle.leveldb_base.specs.declared.types.FileMetaData.{FileMetaData}
-use Rattle.leveldb_version.proofs.Compactions.ChoosingLemmas.{choices_go_by_sets, edited_files_stay_apart, files_are_edited}
+use Rattle.leveldb_version_set.proofs.Compactions.ChoosingLemmas.{choices_go_by_sets, edited_files_stay_apart, files_are_edited}
 use Rattle.leveldb_version.proofs.Versions.SearchLemmas.{all_from_contains}
 use Rattle.leveldb_files.proofs.Edits.VersionSetLemmas.{not_same}
-use Rattle.leveldb_version.specs.Compactions.Compaction.{MayCompact, files_of_tables}
-use Rattle.leveldb_version.specs.Compactions.CompactionEdit.{IsCompactionEdit, SetsPointer, compaction_edit}
+use Rattle.leveldb_version_set.specs.Compactions.Compaction.{MayCompact, files_of_tables}
+use Rattle.leveldb_version_set.specs.Compactions.CompactionEdit.{IsCompactionEdit, SetsPointer, compaction_edit}
 use Rattle.leveldb_version.specs.Edits.FullEdit.{files_after}
 use Rattle.leveldb_files.specs.Levels.Levels.{LiveTable}
-use Rattle.leveldb_version.specs.Sets.LogEdit.{written_edit}
-use Rattle.leveldb_version.specs.Compactions.Picking.{CompactionValue, DeletesFiles, OnlyPoints}
+use Rattle.leveldb_version_set.specs.Sets.LogEdit.{written_edit}
+use Rattle.leveldb_version_set.specs.Compactions.Picking.{CompactionValue, DeletesFiles, OnlyPoints}
 use Rattle.leveldb_version.specs.Versions.Version.{VersionValue, new_files_of}
 use Rattle.leveldb_files.specs.Edits.Edit.{Edit, Field, FieldFits, IsEncodable, LevelFile, LevelsFit, NewFile, Pointer, adds, deletes, empty_edit, file_order, last_sequence_is, log_is, next_file_is, points, previous_log_is}
 use Rattle.leveldb_version.specs.Edits.VersionEdit.{edit_of, new_file_of}
 use Rattle.leveldb_files.specs.Edits.VersionSet.{is_same_file, level_file}
-use Rattle.leveldb_version.specs.Sets.VersionSetValue.{VersionSetValue}
+use Rattle.leveldb_version_set.specs.Sets.VersionSetValue.{VersionSetValue}
 use Rattle.leveldb_version.specs.declared.version_edit.VersionEdit.{VersionEdit}
 use Rattle.leveldb_store.specs.Compactions.Compact.{AreReplacements, ReplacesFiles}
 use Rattle.leveldb_store.specs.Keeping.OpenStore.{AreInLevels}

@@ -14,25 +14,25 @@ use Rattle.leveldb_base.specs.declared.types.FileType.TheVariants.{Descriptor, L
 use Rattle.leveldb_env.proofs.EnvLemmas.{Run-call, Run-mono, Run-trans}
 use Rattle.leveldb_env.specs.Env.{AreBytes, Files, Observed, Run}
 use Rattle.leveldb_mem.specs.Log.Writer.{frame}
-use Rattle.leveldb_version.proofs.Compactions.CompactionEditLemmas.{compactions_are_logged, live_tables_are_known, made_outputs_compact}
-use Rattle.leveldb_version.proofs.Compactions.CompactionOutputsLemmas.{inputs_are_tables, replaced_tables_exist}
+use Rattle.leveldb_version_set.proofs.Compactions.CompactionEditLemmas.{compactions_are_logged, live_tables_are_known, made_outputs_compact}
+use Rattle.leveldb_version_set.proofs.Compactions.CompactionOutputsLemmas.{inputs_are_tables, replaced_tables_exist}
 use Rattle.leveldb_files.proofs.Stores.ManagedLemmas.{numbers_apart}
 use Rattle.leveldb_version.proofs.Versions.SearchLemmas.{all_from_contains}
-use Rattle.leveldb_version.proofs.Compactions.ShownFromLemmas.{compactions_keep_shown}
-use Rattle.leveldb_version.specs.Compactions.Compaction.{AreKnownByNumber, Compacts, ReplacesInputs, files_of_tables}
-use Rattle.leveldb_version.specs.Compactions.CompactionEdit.{CompactionIsLogged, HasMadeOutputs, IsCompactionEdit}
+use Rattle.leveldb_version_set.proofs.Compactions.ShownFromLemmas.{compactions_keep_shown}
+use Rattle.leveldb_version_set.specs.Compactions.Compaction.{AreKnownByNumber, Compacts, ReplacesInputs, files_of_tables}
+use Rattle.leveldb_version_set.specs.Compactions.CompactionEdit.{CompactionIsLogged, HasMadeOutputs, IsCompactionEdit}
 use Rattle.leveldb_files.specs.Stores.Contents.{Store}
 use Rattle.leveldb_files.specs.Levels.Levels.{LiveTable}
-use Rattle.leveldb_version.specs.Sets.LogEdit.{AppendingAndSyncing, AppendsEdit, WritesBytes, edit_record, set_appended, with_bytes_kept, written_edit}
+use Rattle.leveldb_version_set.specs.Sets.LogEdit.{AppendingAndSyncing, AppendsEdit, WritesBytes, edit_record, set_appended, with_bytes_kept, written_edit}
 use Rattle.leveldb_files.specs.Stores.Paths.{IsFilePath, log_path, table_path}
 use Rattle.leveldb_files.specs.Stores.Store.{HasTable, HasTables, OneTableReading}
 use Rattle.leveldb_files.specs.Steps.StoreSteps.{AppendedAreBytes, KeepsHistory}
 use Rattle.leveldb_version.specs.Versions.Version.{VersionValue}
 use Rattle.leveldb_files.specs.Edits.Edit.{Edit, IsEncodable, NewFile}
 use Rattle.leveldb_files.specs.Edits.VersionSet.{live_after}
-use Rattle.leveldb_version.specs.Sets.VersionSetValue.{OpenManifest, VersionSetValue, in_use}
-use Rattle.leveldb_version.specs.Engines.Writing.{IsWrittenBy}
-use Rattle.leveldb_version.specs.Engines.WritingLaws.{TablesAreInRange}
+use Rattle.leveldb_version_set.specs.Sets.VersionSetValue.{OpenManifest, VersionSetValue, in_use}
+use Rattle.leveldb_version_set.specs.Engines.Writing.{IsWrittenBy}
+use Rattle.leveldb_version_set.specs.Engines.WritingLaws.{TablesAreInRange}
 use Rattle.leveldb_files.specs.Stores.Format.{IsTableOf, Meaning}
 use Rattle.leveldb_store.proofs.Tables.NewTablesLemmas.{new_tables_keep, written_new}
 use Rattle.leveldb_store.proofs.Keeping.TableKeepsLemmas.{KeepsHistory-refl, KeepsHistory-trans, appending_and_syncing, in_range_of, is_log_path, is_table_path, live_below, live_on, live_tables, one_reading_of, shows_again, types_apart, written_again}

@@ -7,13 +7,13 @@ use Rattle.std.proofs.lemmas.List.Sorted.{Contains-permutation, IsPermutation-sy
 use Rattle.std.proofs.lemmas.List.Sums.{fold_more}
 use Rattle.std.specs.declared.cmp.Ordering.{Ordering}
 use Rattle.leveldb_base.specs.declared.error.Status.{Status}
-use Rattle.leveldb_version.specs.Sets.CurrentVersion.{IsCurrent}
+use Rattle.leveldb_version_set.specs.Sets.CurrentVersion.{IsCurrent}
 use Rattle.leveldb_files.specs.Levels.Overlap.{UserRange, is_overlapped, named_range, overlaps}
-use Rattle.leveldb_version.specs.Compactions.Picking.{CompactionValue, IsCompactionOf, IsOfRange}
+use Rattle.leveldb_version_set.specs.Compactions.Picking.{CompactionValue, IsCompactionOf, IsOfRange}
 use Rattle.leveldb_files.specs.Levels.Summary.{files_of_level}
 use Rattle.leveldb_version.specs.Versions.Version.{VersionValue, new_files_of}
 use Rattle.leveldb_files.specs.Edits.Edit.{NewFile}
-use Rattle.leveldb_version.specs.Sets.VersionSetValue.{VersionSetValue}
+use Rattle.leveldb_version_set.specs.Sets.VersionSetValue.{VersionSetValue}
 use Rattle.leveldb_store.proofs.Keeping.LevelForLemmas.{overlapped_alike}
 use Rattle.leveldb_store.proofs.Compactions.ReplacedFilesLemmas.{ReplacesInLevel}
 use Rattle.leveldb_store.specs.Compactions.Compact.{KeepsLevelsAbove}

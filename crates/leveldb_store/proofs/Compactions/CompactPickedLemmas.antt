@@ -10,14 +10,14 @@ use Rattle.leveldb_base.specs.declared.error.Status.{Status}
 use Rattle.leveldb_env.specs.declared.env.Env.{Ghosts}
 use Rattle.leveldb_env.specs.declared.filter.FilterPolicy.{Ghosts as FilterGhosts}
 use Rattle.leveldb_files.proofs.Stores.OneStoreLemmas.{flat_in, in_flat}
-use Rattle.leveldb_version.specs.Compactions.Compaction.{Compacts, MayCompact}
+use Rattle.leveldb_version_set.specs.Compactions.Compaction.{Compacts, MayCompact}
 use Rattle.leveldb_files.specs.Stores.Format.{Agrees, Meaning}
 use Rattle.leveldb_files.specs.Levels.Levels.{LiveTable, table_entries}
-use Rattle.leveldb_version.specs.Compactions.Picking.{CompactionValue}
+use Rattle.leveldb_version_set.specs.Compactions.Picking.{CompactionValue}
 use Rattle.leveldb_version.specs.Tables.TableCache.{TableOptions, files_at}
 use Rattle.leveldb_version.specs.Versions.Version.{new_files_of}
 use Rattle.leveldb_files.specs.Edits.Edit.{Edit, NewFile}
-use Rattle.leveldb_version.specs.Sets.VersionSetValue.{VersionSetValue}
+use Rattle.leveldb_version_set.specs.Sets.VersionSetValue.{VersionSetValue}
 use Rattle.leveldb_version.specs.declared.table_cache.TableCache.{TableCache}
 use Rattle.leveldb_store.proofs.Keeping.NoNewEntriesLemmas.{adds_none_removed}
 use Rattle.leveldb_store.proofs.Keeping.OpenTablesLemmas.{open_after_removal}

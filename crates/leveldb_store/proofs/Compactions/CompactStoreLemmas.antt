@@ -23,21 +23,21 @@ use Rattle.leveldb_env.specs.WholeFiles.{IsLost}
 use Rattle.leveldb_env.specs.declared.env.Env.{Ghosts}
 use Rattle.leveldb_env.specs.declared.filter.FilterPolicy.{Ghosts as FilterGhosts}
 use Rattle.leveldb_mem.specs.Log.Writer.{frame}
-use Rattle.leveldb_version.proofs.Sets.LogKeepsLemmas.{framed_are_bytes}
+use Rattle.leveldb_version_set.proofs.Sets.LogKeepsLemmas.{framed_are_bytes}
 use Rattle.leveldb_version.proofs.Tables.TableCacheLemmas.{ClosesTables-refl}
 use Rattle.leveldb_version.specs.Versions.Change.{IsVersionAfter}
-use Rattle.leveldb_version.specs.Compactions.CompactionEdit.{SetsPointer, compaction_edit}
+use Rattle.leveldb_version_set.specs.Compactions.CompactionEdit.{SetsPointer, compaction_edit}
 use Rattle.leveldb_files.specs.Stores.Format.{Agrees, Meaning}
 use Rattle.leveldb_files.specs.Levels.Levels.{LiveTable}
-use Rattle.leveldb_version.specs.Sets.LogEdit.{AppendsEdit, WritesBytes, edit_record, set_appended}
-use Rattle.leveldb_version.specs.Engines.Opening.{FitsEdit}
+use Rattle.leveldb_version_set.specs.Sets.LogEdit.{AppendsEdit, WritesBytes, edit_record, set_appended}
+use Rattle.leveldb_version_set.specs.Engines.Opening.{FitsEdit}
 use Rattle.leveldb_files.specs.Stores.Paths.{IsFilePath, table_path}
-use Rattle.leveldb_version.specs.Compactions.Picking.{CompactionValue, DeletesFiles, OnlyPoints}
+use Rattle.leveldb_version_set.specs.Compactions.Picking.{CompactionValue, DeletesFiles, OnlyPoints}
 use Rattle.leveldb_files.specs.Steps.StoreSteps.{AppendedAreBytes}
 use Rattle.leveldb_version.specs.Tables.TableCache.{TableOptions, files_at}
 use Rattle.leveldb_version.specs.Versions.Version.{VersionValue, new_files_of}
 use Rattle.leveldb_files.specs.Edits.Edit.{Edit, LevelFile, NewFile, Pointer, file_order}
-use Rattle.leveldb_version.specs.Sets.VersionSetValue.{OpenManifest, VersionSetValue, broken, in_use}
+use Rattle.leveldb_version_set.specs.Sets.VersionSetValue.{OpenManifest, VersionSetValue, broken, in_use}
 use Rattle.leveldb_version.specs.declared.table_cache.TableCache.{TableCache}
 use Rattle.leveldb_store.proofs.Compactions.CompactEditLemmas.{compaction_encodable, is_compaction_edit}
 use Rattle.leveldb_store.proofs.Compactions.CompactKeepsLemmas.{HasMade, full_then, keeps_logged, keeps_new, keeps_unlogged, with_numbers}

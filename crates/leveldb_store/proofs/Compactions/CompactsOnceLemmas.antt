@@ -15,12 +15,12 @@ use Rattle.leveldb_env.specs.declared.filter.FilterPolicy.{Ghosts as FilterGhost
 use Rattle.leveldb_version.proofs.Versions.SearchLemmas.{passes_kept}
 use Rattle.leveldb_version.specs.Edits.FullEdit.{files_after, files_with, files_without}
 use Rattle.leveldb_files.specs.Stores.Paths.{table_path}
-use Rattle.leveldb_version.specs.Compactions.Picking.{CompactionValue}
+use Rattle.leveldb_version_set.specs.Compactions.Picking.{CompactionValue}
 use Rattle.leveldb_version.specs.Tables.TableCache.{TableOptions}
 use Rattle.leveldb_version.specs.Versions.Version.{new_files_of}
 use Rattle.leveldb_files.specs.Edits.Edit.{Edit, LevelFile, NewFile}
 use Rattle.leveldb_files.specs.Edits.VersionSet.{is_same_file, level_file}
-use Rattle.leveldb_version.specs.Sets.VersionSetValue.{VersionSetValue}
+use Rattle.leveldb_version_set.specs.Sets.VersionSetValue.{VersionSetValue}
 use Rattle.leveldb_version.specs.declared.table_cache.TableCache.{TableCache}
 use Rattle.leveldb_store.proofs.Compactions.CompactPickedLemmas.{failed_keeps_files}
 use Rattle.leveldb_store.proofs.Keeping.NoNewEntriesLemmas.{live_table_left}

@@ -15,17 +15,18 @@ use Rattle.leveldb_env.specs.declared.env.Env.{Ghosts as EnvGhosts}
 use Rattle.leveldb_env.specs.declared.filter.FilterPolicy.{Ghosts as FilterGhosts}
 use Rattle.leveldb_iter.specs.declared.merging_iter.MergeCore.{MergeCore}
 use Rattle.leveldb_iter.specs.declared.walk.Walk.{Ghosts as WalkGhosts}
-use Rattle.leveldb_version.specs.Compactions.Compaction.{MergesOrMoves, files_of_tables, is_base_level_for}
-use Rattle.leveldb_version.specs.Compactions.CompactionEdit.{HasMadeOutputs}
-use Rattle.leveldb_version.specs.Compactions.Contradictions.{is_among_inputs}
+use Rattle.leveldb_version_set.specs.Compactions.Compaction.{MergesOrMoves, files_of_tables}
+use Rattle.leveldb_version.specs.Versions.DeeperLevels.{is_base_level_for}
+use Rattle.leveldb_version_set.specs.Compactions.CompactionEdit.{HasMadeOutputs}
+use Rattle.leveldb_version_set.specs.Compactions.Contradictions.{is_among_inputs}
 use Rattle.leveldb_files.specs.Stores.Format.{IsTableOf, Meaning}
 use Rattle.leveldb_files.specs.Levels.Levels.{LiveTable, table_entries}
-use Rattle.leveldb_version.specs.Compactions.Picking.{CompactionValue}
+use Rattle.leveldb_version_set.specs.Compactions.Picking.{CompactionValue}
 use Rattle.leveldb_files.specs.Stores.Store.{SameEntries}
 use Rattle.leveldb_version.specs.Tables.TableCache.{TableOptions, files_at}
 use Rattle.leveldb_version.specs.Versions.Version.{VersionValue, new_files_of}
 use Rattle.leveldb_files.specs.Edits.Edit.{NewFile}
-use Rattle.leveldb_version.specs.Sets.VersionSetValue.{VersionSetValue}
+use Rattle.leveldb_version_set.specs.Sets.VersionSetValue.{VersionSetValue}
 use Rattle.leveldb_version.specs.declared.table_cache.TableCache.{TableCache}
 use Rattle.leveldb_version.specs.declared.table_cache.moves.ReadTables.{ReadTables}
 use Rattle.leveldb_version.specs.declared.version_iter.VersionIter.{VersionIter}

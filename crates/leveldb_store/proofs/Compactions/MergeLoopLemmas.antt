@@ -19,7 +19,7 @@ use Rattle.leveldb_iter.specs.declared.walk.Walk.{Ghosts as WalkGhosts}
 use Rattle.leveldb_files.proofs.Histories.SafeLemmas.{some_is}
 use Rattle.leveldb_files.specs.Stores.Paths.{table_path}
 use Rattle.leveldb_files.specs.Steps.StoreSteps.{AppendedAreBytes}
-use Rattle.leveldb_version.specs.Sets.VersionSetValue.{VersionSetValue}
+use Rattle.leveldb_version_set.specs.Sets.VersionSetValue.{VersionSetValue}
 use Rattle.leveldb_store.specs.Tables.BuildTable.{TableChoices, passed}
 use Rattle.leveldb_store.specs.Compactions.Merging.{BearsNewTables, IsReachedFrom, HasMerged, LeavesFiles, Merge, MergesTables, MovesLeaveFiles, TakesPair, by_move, by_writing, itself}
 use Rattle.leveldb_store.specs.Openings.Opening.{GivesNumbers, TakesBackNew}

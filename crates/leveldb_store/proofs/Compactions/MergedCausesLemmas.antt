@@ -24,15 +24,15 @@ use Rattle.leveldb_env.specs.declared.filter.FilterPolicy.{Ghosts as FilterGhost
 use Rattle.leveldb_iter.specs.Walk.{key_order}
 use Rattle.leveldb_iter.specs.declared.merging_iter.MergeCore.{MergeCore}
 use Rattle.leveldb_iter.specs.declared.walk.Walk.{Ghosts as WalkGhosts}
-use Rattle.leveldb_version.proofs.Compactions.AmongLemmas.{among_tells}
-use Rattle.leveldb_version.proofs.Compactions.ContradictionLemmas.{tables_agree_with_edits}
+use Rattle.leveldb_version_set.proofs.Compactions.AmongLemmas.{among_tells}
+use Rattle.leveldb_version_set.proofs.Compactions.ContradictionLemmas.{tables_agree_with_edits}
 use Rattle.leveldb_files.proofs.Stores.OneStoreLemmas.{flat_in, in_flat}
 use Rattle.leveldb_version.proofs.Versions.SearchLemmas.{all_from_contains}
-use Rattle.leveldb_version.specs.Compactions.Compaction.{is_base_level_for}
-use Rattle.leveldb_version.specs.Compactions.Contradictions.{AgreeWithEdits, is_among_inputs}
+use Rattle.leveldb_version.specs.Versions.DeeperLevels.{is_base_level_for}
+use Rattle.leveldb_version_set.specs.Compactions.Contradictions.{AgreeWithEdits, is_among_inputs}
 use Rattle.leveldb_files.specs.Stores.Format.{Agrees, IsTableFault, LacksCompressor, Meaning}
 use Rattle.leveldb_files.specs.Levels.Levels.{LiveTable, table_entries}
-use Rattle.leveldb_version.specs.Compactions.Picking.{CompactionValue}
+use Rattle.leveldb_version_set.specs.Compactions.Picking.{CompactionValue}
 use Rattle.leveldb_files.specs.Stores.Store.{SameEntries}
 use Rattle.leveldb_version.specs.Tables.TableCache.{TableOptions}
 use Rattle.leveldb_version.specs.Versions.Version.{VersionValue, new_files_of}

@@ -22,23 +22,23 @@ use Rattle.leveldb_env.specs.Env.{AreBytes}
 use Rattle.leveldb_env.specs.declared.env.Env.{Ghosts as EnvGhosts}
 use Rattle.leveldb_env.specs.declared.filter.FilterPolicy.{Ghosts as FilterGhosts}
 use Rattle.leveldb_table.specs.BlockBuilder.{last_added}
-use Rattle.leveldb_version.proofs.Compactions.AmongLemmas.{among_tells}
-use Rattle.leveldb_version.proofs.Compactions.CompactionOutputsLemmas.{keys_are_cut}
-use Rattle.leveldb_version.proofs.Compactions.ContradictionLemmas.{agreed_files_lie_within, cut_files_are_apart}
+use Rattle.leveldb_version_set.proofs.Compactions.AmongLemmas.{among_tells}
+use Rattle.leveldb_version_set.proofs.Compactions.CompactionOutputsLemmas.{keys_are_cut}
+use Rattle.leveldb_version_set.proofs.Compactions.ContradictionLemmas.{agreed_files_lie_within, cut_files_are_apart}
 use Rattle.leveldb_files.proofs.Stores.OneStoreLemmas.{flat_in}
 use Rattle.leveldb_version.proofs.Versions.PairwiseLemmas.{each_first}
 use Rattle.leveldb_version.proofs.Versions.SearchLemmas.{all_from_contains}
 use Rattle.leveldb_files.specs.Stores.Batches.{Each}
-use Rattle.leveldb_version.specs.Compactions.Compaction.{IsWithinInputs}
-use Rattle.leveldb_version.specs.Compactions.Contradictions.{AgreeWithEdits, IsMadeOf, is_among_inputs}
+use Rattle.leveldb_version_set.specs.Compactions.Compaction.{IsWithinInputs}
+use Rattle.leveldb_version_set.specs.Compactions.Contradictions.{AgreeWithEdits, IsMadeOf, is_among_inputs}
 use Rattle.leveldb_files.specs.Levels.Levels.{AreDisjoint}
-use Rattle.leveldb_version.specs.Engines.Opening.{FitsEdit}
-use Rattle.leveldb_version.specs.Compactions.Picking.{CompactionValue}
+use Rattle.leveldb_version_set.specs.Engines.Opening.{FitsEdit}
+use Rattle.leveldb_version_set.specs.Compactions.Picking.{CompactionValue}
 use Rattle.leveldb_files.specs.Stores.Store.{IsFirstKey, IsLastKey}
 use Rattle.leveldb_version.specs.Versions.Version.{new_files_of}
 use Rattle.leveldb_files.specs.Edits.Edit.{NewFile}
 use Rattle.leveldb_version.specs.Edits.VersionEdit.{new_file_of}
-use Rattle.leveldb_version.specs.Sets.VersionSetValue.{VersionSetValue}
+use Rattle.leveldb_version_set.specs.Sets.VersionSetValue.{VersionSetValue}
 use Rattle.leveldb_store.specs.Tables.BuildTable.{IsTableFile, TableChoices}
 use Rattle.leveldb_store.specs.Compactions.Compact.{AreReplacements}
 use Rattle.leveldb_store.specs.Compactions.Merging.{Merge, MergesInto, all_pairs}

@@ -17,16 +17,16 @@ use Rattle.leveldb_env.specs.Compressor.{Codings}
 use Rattle.leveldb_env.specs.Env.{Files}
 use Rattle.leveldb_env.specs.declared.env.Env.{Ghosts as EnvGhosts}
 use Rattle.leveldb_env.specs.declared.filter.FilterPolicy.{Ghosts as FilterGhosts}
-use Rattle.leveldb_version.proofs.Compactions.ChoosingLemmas.{choices_go_by_sets}
-use Rattle.leveldb_version.proofs.Compactions.CompactionEditLemmas.{live_known, live_order}
-use Rattle.leveldb_version.proofs.Compactions.CompactionOutputsLemmas.{fewer_tables_fit, inputs_are_tables}
+use Rattle.leveldb_version_set.proofs.Compactions.ChoosingLemmas.{choices_go_by_sets}
+use Rattle.leveldb_version_set.proofs.Compactions.CompactionEditLemmas.{live_known, live_order}
+use Rattle.leveldb_version_set.proofs.Compactions.CompactionOutputsLemmas.{fewer_tables_fit, inputs_are_tables}
 use Rattle.leveldb_version.proofs.Versions.DisjointLemmas.{fewer_disjoint}
 use Rattle.leveldb_version.proofs.Versions.SearchLemmas.{all_from_contains}
-use Rattle.leveldb_version.specs.Compactions.Compaction.{AreBounded, AreKnownByNumber, AreOnce, MayCompact, files_of_tables}
-use Rattle.leveldb_version.specs.Sets.CurrentVersion.{IsCurrent}
+use Rattle.leveldb_version_set.specs.Compactions.Compaction.{AreBounded, AreKnownByNumber, AreOnce, MayCompact, files_of_tables}
+use Rattle.leveldb_version_set.specs.Sets.CurrentVersion.{IsCurrent}
 use Rattle.leveldb_files.specs.Stores.Format.{Agrees, IsTableOf, Meaning}
 use Rattle.leveldb_files.specs.Levels.Levels.{LevelOrder, LiveTable}
-use Rattle.leveldb_version.specs.Compactions.Picking.{CompactionValue, IsCompactionOf}
+use Rattle.leveldb_version_set.specs.Compactions.Picking.{CompactionValue, IsCompactionOf}
 use Rattle.leveldb_version.specs.Versions.Search.{AreDisjointLevels}
 use Rattle.leveldb_files.specs.Stores.Store.{HasTable, HasTables}
 use Rattle.leveldb_version.specs.Tables.TableCache.{files_at}

@@ -17,12 +17,13 @@ use Rattle.leveldb_env.specs.Env.{Files}
 use Rattle.leveldb_env.specs.declared.env.Env.{Ghosts as EnvGhosts}
 use Rattle.leveldb_env.specs.declared.filter.FilterPolicy.{Ghosts as FilterGhosts}
 use Rattle.leveldb_table.specs.TableBuilder.{IsMeaningOf}
-use Rattle.leveldb_version.proofs.Compactions.CompactionOutputsLemmas.{drops_go_by_sets, thinned_tables_drop_all}
+use Rattle.leveldb_version_set.proofs.Compactions.CompactionOutputsLemmas.{drops_go_by_sets, thinned_tables_drop_all}
 use Rattle.leveldb_files.proofs.Stores.OneStoreLemmas.{flat_in}
 use Rattle.leveldb_files.proofs.Stores.StoreTablesLemmas.{held_tables_by_more}
 use Rattle.leveldb_files.specs.Stores.Batches.{Each}
-use Rattle.leveldb_version.specs.Compactions.Compaction.{IsBaseLevelFor, MayCompact, files_of_tables, is_base_level_for}
-use Rattle.leveldb_version.specs.Compactions.CompactionEdit.{HasMadeOutputs}
+use Rattle.leveldb_version_set.specs.Compactions.Compaction.{MayCompact, files_of_tables}
+use Rattle.leveldb_version.specs.Versions.DeeperLevels.{IsBaseLevelFor, is_base_level_for}
+use Rattle.leveldb_version_set.specs.Compactions.CompactionEdit.{HasMadeOutputs}
 use Rattle.leveldb_files.specs.Stores.Format.{Agrees, IsTableOf, Meaning}
 use Rattle.leveldb_files.specs.Levels.Levels.{AreDisjoint, LiveTable, table_entries}
 use Rattle.leveldb_files.specs.Stores.Paths.{table_path}

@@ -14,7 +14,7 @@ use Rattle.leveldb_files.specs.Stores.Paths.{table_path}
 use Rattle.leveldb_version.specs.Tables.TableCache.{MatchesFiles, TableOptions, files_at, path_at}
 use Rattle.leveldb_version.specs.Walks.VersionIter.{KeepsReading, reading}
 use Rattle.leveldb_version.specs.Walks.VersionIterLaws.{reading_stays}
-use Rattle.leveldb_version.specs.Sets.VersionSetValue.{VersionSetValue}
+use Rattle.leveldb_version_set.specs.Sets.VersionSetValue.{VersionSetValue}
 use Rattle.leveldb_version.specs.declared.table_cache.moves.ReadTables.{ReadTables}
 use Rattle.leveldb_store.specs.Compactions.Merging.{IsReachedFrom, MovesLeaveFiles, by_move, by_writing, itself}
 use Rattle.leveldb_store.specs.Compactions.MergeInputs.{ReadsBelow}

@@ -14,16 +14,17 @@ use Rattle.leveldb_base.specs.declared.cmp.internal.InternalKeyCmp.{InternalKeyC
 use Rattle.leveldb_base.specs.declared.types.FileMetaData.{FileMetaData}
 use Rattle.leveldb_env.specs.declared.env.Env.{Ghosts as EnvGhosts}
 use Rattle.leveldb_env.specs.declared.filter.FilterPolicy.{Ghosts as FilterGhosts}
-use Rattle.leveldb_version.proofs.Compactions.CompactionEditLemmas.{moves_compact}
+use Rattle.leveldb_version_set.proofs.Compactions.CompactionEditLemmas.{moves_compact}
 use Rattle.leveldb_files.proofs.Histories.SafeLemmas.{some_is}
 use Rattle.leveldb_version.proofs.Versions.SearchLemmas.{all_from_contains}
-use Rattle.leveldb_version.specs.Compactions.Compaction.{IsWithinInputs, MayCompact, MayMove, MergesOrMoves, closed_range, files_of_tables, moved}
-use Rattle.leveldb_version.specs.Compactions.CompactionEdit.{HasMadeOutputs}
+use Rattle.leveldb_version_set.specs.Compactions.Compaction.{IsWithinInputs, MayCompact, MayMove, MergesOrMoves, files_of_tables, moved}
+use Rattle.leveldb_version.specs.Versions.DeeperLevels.{closed_range}
+use Rattle.leveldb_version_set.specs.Compactions.CompactionEdit.{HasMadeOutputs}
 use Rattle.leveldb_files.specs.Stores.Format.{IsTableOf, Meaning}
 use Rattle.leveldb_files.specs.Levels.Levels.{LiveTable}
-use Rattle.leveldb_version.specs.Engines.Opening.{FitsEdit}
+use Rattle.leveldb_version_set.specs.Engines.Opening.{FitsEdit}
 use Rattle.leveldb_files.specs.Stores.Paths.{table_path}
-use Rattle.leveldb_version.specs.Compactions.Picking.{CompactionValue}
+use Rattle.leveldb_version_set.specs.Compactions.Picking.{CompactionValue}
 use Rattle.leveldb_files.specs.Steps.StoreSteps.{IsKept}
 use Rattle.leveldb_version.specs.Tables.TableCache.{TableOptions, files_at}
 use Rattle.leveldb_version.specs.Versions.Version.{VersionValue, at_level, new_files_of}

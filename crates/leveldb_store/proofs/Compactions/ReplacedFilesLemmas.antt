@@ -5,17 +5,17 @@ use Rattle.std.specs.List.{filter}
 use Rattle.std.specs.declared.cmp.Ordering.{Ordering}
 use Rattle.std.proofs.lemmas.Bool.{eqb-true}
 use Rattle.leveldb_base.proofs.HistoryLemmas.{in_cases, in_front, in_none, in_rest}
-use Rattle.leveldb_version.proofs.Compactions.ChoosingLemmas.{files_are_edited}
+use Rattle.leveldb_version_set.proofs.Compactions.ChoosingLemmas.{files_are_edited}
 use Rattle.leveldb_version.proofs.Versions.SearchLemmas.{passes_kept}
 use Rattle.leveldb_files.proofs.Edits.VersionSetLemmas.{is_same_file-refl}
-use Rattle.leveldb_version.specs.Compactions.Compaction.{MayCompact}
+use Rattle.leveldb_version_set.specs.Compactions.Compaction.{MayCompact}
 use Rattle.leveldb_version.specs.Edits.FullEdit.{files_after, files_with, files_without}
-use Rattle.leveldb_version.specs.Compactions.Picking.{CompactionValue}
+use Rattle.leveldb_version_set.specs.Compactions.Picking.{CompactionValue}
 use Rattle.leveldb_files.specs.Levels.Summary.{files_of_level}
 use Rattle.leveldb_version.specs.Versions.Version.{new_files_of}
 use Rattle.leveldb_files.specs.Edits.Edit.{Edit, LevelFile, NewFile}
 use Rattle.leveldb_files.specs.Edits.VersionSet.{is_same_file, level_file}
-use Rattle.leveldb_version.specs.Sets.VersionSetValue.{VersionSetValue}
+use Rattle.leveldb_version_set.specs.Sets.VersionSetValue.{VersionSetValue}
 use Rattle.leveldb_store.specs.Compactions.Compact.{KeepsLevelsAbove, LogsCompaction, ReplacesFiles}
 use Rattle.leveldb_store.specs.Keeping.OpenStore.{OpenStoreValue}
 

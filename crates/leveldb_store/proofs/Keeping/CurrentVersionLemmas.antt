@@ -9,13 +9,13 @@ use Rattle.std.specs.declared.cmp.Ordering.{Ordering}
 use Rattle.leveldb_base.specs.declared.error.Status.{Status}
 use Rattle.leveldb_base.specs.declared.cmp.Cmp.{Ghosts as CmpGhosts}
 use Rattle.leveldb_version.specs.Versions.Change.{IsVersionAfter}
-use Rattle.leveldb_version.specs.Sets.CurrentVersion.{IsCurrent, VersionsValue}
+use Rattle.leveldb_version_set.specs.Sets.CurrentVersion.{IsCurrent, VersionsValue}
 use Rattle.leveldb_version.specs.Edits.FullEdit.{files_without}
 use Rattle.leveldb_files.specs.Levels.Overlap.{UserRange, output_level}
 use Rattle.leveldb_version.specs.Versions.Version.{VersionValue, charged, new_files_of}
 use Rattle.leveldb_files.specs.Edits.Edit.{Edit, LevelFile, NewFile}
 use Rattle.leveldb_files.specs.Edits.VersionSet.{is_same_file, level_file}
-use Rattle.leveldb_version.specs.Sets.VersionSetValue.{VersionSetValue}
+use Rattle.leveldb_version_set.specs.Sets.VersionSetValue.{VersionSetValue}
 use Rattle.leveldb_store.proofs.Keeping.LevelForLemmas.{output_level_alike}
 use Rattle.leveldb_store.specs.Keeping.OpenStore.{OpenStoreValue}
 

@@ -14,7 +14,7 @@ use Rattle.leveldb_table.specs.TableBlock.{KeepsDisk}
 use Rattle.leveldb_files.specs.Stores.Format.{Meaning}
 use Rattle.leveldb_store.proofs.Keeping.RemoveLemmas.{name_unslashed, next_item, none_removed, removal_keeps}
 use Rattle.leveldb_store.specs.Logs.Damage.{IsDamagedFile, IsLeftAside, LosesRecords}
-use Rattle.leveldb_version.specs.Sets.VersionSetValue.{VersionSetValue}
+use Rattle.leveldb_version_set.specs.Sets.VersionSetValue.{VersionSetValue}
 use Rattle.leveldb_store.specs.Keeping.OpenStore.{OpenStoreValue}
 use Rattle.leveldb_store.specs.Keeping.Written.{KeepsWritten}
 

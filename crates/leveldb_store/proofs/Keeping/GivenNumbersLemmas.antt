@@ -9,7 +9,7 @@ use Rattle.leveldb_files.specs.Stores.Format.{Format}
 use Rattle.leveldb_version.specs.Edits.FullEdit.{files_after, files_with, files_without}
 use Rattle.leveldb_files.specs.Edits.Edit.{Edit, LevelFile, NewFile}
 use Rattle.leveldb_version.specs.Edits.VersionEdit.{new_file_of}
-use Rattle.leveldb_version.specs.Sets.VersionSetValue.{VersionSetValue}
+use Rattle.leveldb_version_set.specs.Sets.VersionSetValue.{VersionSetValue}
 use Rattle.leveldb_store.specs.Keeping.OpenStore.{AreNumbersGiven}
 use Rattle.leveldb_store.specs.Openings.OpeningSteps.{made_files}
 use Rattle.leveldb_store.specs.Logs.ReplayLog.{TablesRest, table_files}

@@ -8,7 +8,7 @@ use Rattle.leveldb_env.proofs.EnvLemmas.{bytes_eq-apart}
 use Rattle.leveldb_env.specs.Env.{File, Files, SameBut, bytes_of}
 use Rattle.leveldb_files.specs.Stores.Paths.{IsFilePath, table_path}
 use Rattle.leveldb_version.specs.Tables.TableCache.{IsSameOrGone}
-use Rattle.leveldb_version.specs.Sets.VersionSetValue.{VersionSetValue}
+use Rattle.leveldb_version_set.specs.Sets.VersionSetValue.{VersionSetValue}
 use Rattle.leveldb_store.proofs.Keeping.TableKeepsLemmas.{is_table_path, types_apart}
 use Rattle.leveldb_store.specs.Writing.Switch.{RemovesNoOther}
 use Rattle.leveldb_store.specs.Keeping.Written.{KeepsGivenTables}

@@ -10,7 +10,7 @@ use Rattle.leveldb_env.proofs.EnvLemmas.{Run-mono, Run-trans}
 use Rattle.leveldb_env.specs.Env.{Files, Observed, Run}
 use Rattle.leveldb_files.proofs.Steps.KeepsLemmas.{keeping_holds}
 use Rattle.leveldb_files.proofs.Histories.SafeLemmas.{safe_more}
-use Rattle.leveldb_version.proofs.Engines.ShownLemmas.{written_is_shown}
+use Rattle.leveldb_version_set.proofs.Engines.ShownLemmas.{written_is_shown}
 use Rattle.leveldb_files.specs.Stores.Contents.{Store}
 use Rattle.leveldb_files.specs.Histories.Holds.{Holds, IsSafe}
 use Rattle.leveldb_files.specs.Levels.Levels.{LiveTable}

@@ -9,9 +9,9 @@ use Rattle.leveldb_base.specs.declared.types.FileType.TheVariants.{Table}
 use Rattle.leveldb_env.proofs.EnvLemmas.{Run-trans, at_other, at_same, begun, bytes_eq-apart}
 use Rattle.leveldb_env.specs.Env.{BeforeOrAfter, File, Files, SameBut, bytes_of, created, extended, file_kept, longer_file, or_empty, synced, with_file}
 use Rattle.leveldb_env.specs.declared.env.Env.{Ghosts}
-use Rattle.leveldb_version.specs.Sets.LogEdit.{AppendingAndSyncing}
+use Rattle.leveldb_version_set.specs.Sets.LogEdit.{AppendingAndSyncing}
 use Rattle.leveldb_files.specs.Stores.Paths.{table_path}
-use Rattle.leveldb_version.specs.Sets.VersionSetValue.{VersionSetValue}
+use Rattle.leveldb_version_set.specs.Sets.VersionSetValue.{VersionSetValue}
 use Rattle.leveldb_store.specs.Keeping.KeptBytes.{BeginWith, KeepsItsBytes, LosesNoBytes, LosesNoBytesMeanwhile, TableNumbersAreBelow}
 use Rattle.leveldb_store.specs.Openings.Opening.{SameButTables}
 use Rattle.leveldb_store.specs.Tables.Outputs.{SameButNewTables}

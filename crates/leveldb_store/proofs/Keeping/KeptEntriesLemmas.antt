@@ -15,13 +15,13 @@ use Rattle.leveldb_env.specs.declared.env.Env.{Ghosts}
 use Rattle.leveldb_env.specs.declared.filter.FilterPolicy.{Ghosts as FilterGhosts}
 use Rattle.leveldb_mem.specs.MemTable.{Kept}
 use Rattle.leveldb_files.proofs.Stores.ManagedLemmas.{same_bytes, table_on}
-use Rattle.leveldb_version.specs.Compactions.Compaction.{files_of_tables}
+use Rattle.leveldb_version_set.specs.Compactions.Compaction.{files_of_tables}
 use Rattle.leveldb_files.specs.Stores.Format.{Format, IsTableOf}
 use Rattle.leveldb_files.specs.Levels.Levels.{LiveTable, table_entries}
 use Rattle.leveldb_files.specs.Stores.Paths.{table_path}
 use Rattle.leveldb_files.specs.Stores.Store.{HasTable, SameEntries}
 use Rattle.leveldb_files.specs.Edits.Edit.{Edit, NewFile}
-use Rattle.leveldb_version.specs.Sets.VersionSetValue.{VersionSetValue, broken, with_number_given}
+use Rattle.leveldb_version_set.specs.Sets.VersionSetValue.{VersionSetValue, broken, with_number_given}
 use Rattle.leveldb_store.proofs.Compactions.CompactsOnceLemmas.{none_compacted}
 use Rattle.leveldb_store.proofs.Keeping.NoNewEntriesLemmas.{live_table_left}
 use Rattle.leveldb_store.specs.Tables.BuildTable.{TableChoices}

@@ -13,11 +13,12 @@ use Rattle.leveldb_base.proofs.HistoryLemmas.{in_front, in_rest}
 use Rattle.leveldb_base.specs.History.{AreRising, IsBeforeAll}
 use Rattle.leveldb_base.specs.KeyTypes.{internal_cmp, sequence_part, user_part}
 use Rattle.leveldb_base.specs.Types.{Pair}
-use Rattle.leveldb_version.proofs.Versions.DisjointLemmas.{fewer_disjoint, picked_disjoint, usable_disjoint}
+use Rattle.leveldb_version_set.proofs.Sets.DisjointLemmas.{usable_disjoint}
+use Rattle.leveldb_version.proofs.Versions.DisjointLemmas.{fewer_disjoint, picked_disjoint}
 use Rattle.leveldb_version.proofs.Versions.SearchLemmas.{all_from_contains, kept_passes, passes_kept}
 use Rattle.leveldb_version.specs.Edits.FullEdit.{files_with, files_without}
 use Rattle.leveldb_files.specs.Levels.Overlap.{file_range, output_level}
-use Rattle.leveldb_version.specs.Sets.Recover.{IsUsable}
+use Rattle.leveldb_version_set.specs.Sets.Recover.{IsUsable}
 use Rattle.leveldb_version.specs.Versions.Search.{AreDisjointLevels}
 use Rattle.leveldb_files.specs.Stores.Store.{IsFirstKey, IsLastKey}
 use Rattle.leveldb_files.specs.Levels.Summary.{files_of_level}

@@ -3,10 +3,10 @@ use Rattle.std.proofs.Common.{◌≡◌, ◌++◌, ◌+◌, ℕ, List, [], ◌�
 use Rattle.std.proofs.lemmas.List.{length-append}
 use Rattle.std.proofs.lemmas.List.Elements.{All-append, All-cons, All-nil}
 use Rattle.std.specs.declared.cmp.Ordering.{Ordering}
-use Rattle.leveldb_version.specs.Sets.LogEdit.{set_appended}
+use Rattle.leveldb_version_set.specs.Sets.LogEdit.{set_appended}
 use Rattle.leveldb_files.specs.Edits.Edit.{Edit}
-use Rattle.leveldb_version.specs.Sets.VersionSetValue.{VersionSetValue, with_number_given}
-use Rattle.leveldb_version.specs.Engines.Writing.{table_edit}
+use Rattle.leveldb_version_set.specs.Sets.VersionSetValue.{VersionSetValue, with_number_given}
+use Rattle.leveldb_version_set.specs.Engines.Writing.{table_edit}
 use Rattle.leveldb_store.proofs.Logs.ReplayFilesLemmas.{GivesNumbers-refl, GivesNumbers-trans}
 use Rattle.leveldb_store.specs.Keeping.LoggedEdits.{IsTableEdit, LogsEdits, LogsTableEdits}
 use Rattle.leveldb_store.specs.Openings.Opening.{GivesNumbers}

@@ -19,8 +19,8 @@ use Rattle.leveldb_files.specs.Stores.Paths.{table_path}
 use Rattle.leveldb_files.specs.Stores.Store.{HasTable}
 use Rattle.leveldb_version.specs.Tables.TableCache.{files_at}
 use Rattle.leveldb_files.specs.Edits.Edit.{NewFile}
-use Rattle.leveldb_version.specs.Sets.VersionSetValue.{VersionSetValue}
-use Rattle.leveldb_version.specs.Engines.Writing.{IsObsolete}
+use Rattle.leveldb_version_set.specs.Sets.VersionSetValue.{VersionSetValue}
+use Rattle.leveldb_version_set.specs.Engines.Writing.{IsObsolete}
 use Rattle.leveldb_store.proofs.Keeping.GivenTablesLemmas.{SameGiven}
 use Rattle.leveldb_store.proofs.Keeping.OpenTablesLemmas.{number_in}
 use Rattle.leveldb_store.proofs.Writing.RoomLemmas.{written_on}

@@ -18,8 +18,8 @@ use Rattle.leveldb_version.proofs.Tables.TableCacheLemmas.{ClosesTables-refl, Cl
 use Rattle.leveldb_files.specs.Stores.Paths.{table_path}
 use Rattle.leveldb_version.specs.Tables.TableCache.{ClosesTables, EvictsTable, IsSameOrGone, TableOptions, files_at, table_at}
 use Rattle.leveldb_files.specs.Edits.Edit.{NewFile}
-use Rattle.leveldb_version.specs.Sets.VersionSetValue.{VersionSetValue}
-use Rattle.leveldb_version.specs.Engines.Writing.{IsObsolete}
+use Rattle.leveldb_version_set.specs.Sets.VersionSetValue.{VersionSetValue}
+use Rattle.leveldb_version_set.specs.Engines.Writing.{IsObsolete}
 use Rattle.leveldb_version.specs.declared.table_cache.TableCache.{TableCache}
 use Rattle.leveldb_store.proofs.Keeping.GivenTablesLemmas.{given_removed, given_same}
 use Rattle.leveldb_store.proofs.Writing.SwitchLemmas.{tables_same}

@@ -32,18 +32,18 @@ use Rattle.leveldb_env.specs.Env.{BeforeOrAfter, ChangesFiles, File, Files, File
 use Rattle.leveldb_env.specs.declared.env.Env.{Ghosts}
 use Rattle.leveldb_files.proofs.Steps.BytesLemmas.{bytes_stay}
 use Rattle.leveldb_files.proofs.Steps.KeepsLemmas.{unread_keeps}
-use Rattle.leveldb_version.proofs.Sets.LogKeepsLemmas.{keeps_then}
+use Rattle.leveldb_version_set.proofs.Sets.LogKeepsLemmas.{keeps_then}
 use Rattle.leveldb_files.proofs.Stores.ManagedLemmas.{same_name}
-use Rattle.leveldb_version.proofs.Sets.TrackedLemmas.{numbered_up_to, unread_unnamed}
-use Rattle.leveldb_version.proofs.Sets.UsableLemmas.{if_err_more, on_ok_more}
-use Rattle.leveldb_version.proofs.Engines.WrittenLemmas.{obsolete_is_unread, written_unread}
+use Rattle.leveldb_version_set.proofs.Sets.TrackedLemmas.{numbered_up_to, unread_unnamed}
+use Rattle.leveldb_version_set.proofs.Sets.UsableLemmas.{if_err_more, on_ok_more}
+use Rattle.leveldb_version_set.proofs.Engines.WrittenLemmas.{obsolete_is_unread, written_unread}
 use Rattle.leveldb_files.specs.Stores.Contents.{Store}
 use Rattle.leveldb_files.specs.Stores.Paths.{log_path, table_path}
 use Rattle.leveldb_files.specs.Steps.StoreSteps.{IsUnnamed, IsUnread}
 use Rattle.leveldb_files.specs.Edits.Edit.{NewFile}
 use Rattle.leveldb_files.specs.Edits.VersionSet.{live_after}
-use Rattle.leveldb_version.specs.Sets.VersionSetValue.{VersionSetValue, broken, numbers_in_order}
-use Rattle.leveldb_version.specs.Engines.Writing.{IsObsolete}
+use Rattle.leveldb_version_set.specs.Sets.VersionSetValue.{VersionSetValue, broken, numbers_in_order}
+use Rattle.leveldb_version_set.specs.Engines.Writing.{IsObsolete}
 use Rattle.leveldb_files.specs.Stores.Format.{IsTableOf, Meaning}
 use Rattle.leveldb_store.specs.Keeping.OpenStore.{OpenStoreValue}
 use Rattle.leveldb_store.specs.Writing.Switch.{AreRemoved, DeletesFile, HasFirstCause, IsFirstError, IsMemoryOut, IsObsoleteName, IsObsoletePath, LeavesFailed, RemovesName, RemovesNames, RemovesNoOther, RemovesObsolete, without_files}

@@ -16,15 +16,15 @@ use Rattle.leveldb_env.specs.WholeFiles.{IsLost}
 use Rattle.leveldb_env.specs.declared.env.Env.{Ghosts}
 use Rattle.leveldb_env.specs.declared.filter.FilterPolicy.{Ghosts as FilterGhosts}
 use Rattle.leveldb_mem.specs.Log.Writer.{WriterState, frame}
-use Rattle.leveldb_version.proofs.Sets.EditRecordLemmas.{KeysAreBytes, tables_record_bytes}
-use Rattle.leveldb_version.proofs.Sets.LogKeepsLemmas.{framed_are_bytes}
-use Rattle.leveldb_version.specs.Sets.LogEdit.{AppendingAndSyncing, AppendsEdit, edit_record}
-use Rattle.leveldb_version.specs.Engines.Opening.{FitsEdit}
+use Rattle.leveldb_version_set.proofs.Sets.EditRecordLemmas.{KeysAreBytes, tables_record_bytes}
+use Rattle.leveldb_version_set.proofs.Sets.LogKeepsLemmas.{framed_are_bytes}
+use Rattle.leveldb_version_set.specs.Sets.LogEdit.{AppendingAndSyncing, AppendsEdit, edit_record}
+use Rattle.leveldb_version_set.specs.Engines.Opening.{FitsEdit}
 use Rattle.leveldb_files.specs.Stores.Paths.{log_path}
 use Rattle.leveldb_files.specs.Steps.StoreSteps.{AppendedAreBytes}
 use Rattle.leveldb_files.specs.Edits.Edit.{NewFile}
-use Rattle.leveldb_version.specs.Sets.VersionSetValue.{OpenManifest, VersionSetValue, broken, in_use, with_number_given}
-use Rattle.leveldb_version.specs.Engines.Writing.{table_edit}
+use Rattle.leveldb_version_set.specs.Sets.VersionSetValue.{OpenManifest, VersionSetValue, broken, in_use, with_number_given}
+use Rattle.leveldb_version_set.specs.Engines.Writing.{table_edit}
 use Rattle.leveldb_store.specs.Tables.BuildTable.{MakesTable, TableChoices}
 use Rattle.leveldb_files.specs.Stores.Format.{Meaning}
 use Rattle.leveldb_store.specs.Keeping.OpenStore.{IsUnbroken, OpenStoreValue}

@@ -10,7 +10,7 @@ use Rattle.leveldb_env.specs.Env.{AreBytes}
 use Rattle.leveldb_env.specs.declared.env.Env.{Ghosts}
 use Rattle.leveldb_mem.specs.Log.Writer.{frame}
 use Rattle.leveldb_mem.specs.WriteBatch.{Batch}
-use Rattle.leveldb_version.proofs.Sets.LogKeepsLemmas.{framed_are_bytes}
+use Rattle.leveldb_version_set.proofs.Sets.LogKeepsLemmas.{framed_are_bytes}
 use Rattle.leveldb_store.proofs.Keeping.SoundLemmas.{GoesOn, appending_bytes, call_goes_on, failed_once, nothing_goes_on, sound_ok, sound_unbroken, written_log, written_unbroken}
 use Rattle.leveldb_files.specs.Stores.Format.{Meaning}
 use Rattle.leveldb_store.specs.Keeping.OpenStore.{OpenStoreValue}

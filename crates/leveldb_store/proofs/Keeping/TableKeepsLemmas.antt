@@ -24,31 +24,31 @@ use Rattle.leveldb_mem.specs.Log.Writer.{frame, new_writer}
 use Rattle.leveldb_table.proofs.TableReaderLemmas.{one_table}
 use Rattle.leveldb_table.specs.Table.{DecodesOne}
 use Rattle.leveldb_files.proofs.Steps.KeepsLemmas.{unread_keeps}
-use Rattle.leveldb_version.proofs.Engines.LogTablesLemmas.{same_place}
+use Rattle.leveldb_version_set.proofs.Engines.LogTablesLemmas.{same_place}
 use Rattle.leveldb_files.proofs.Stores.ManagedLemmas.{kinds_apart, numbers_apart, same_bytes, table_on}
 use Rattle.leveldb_files.proofs.Stores.OneStoreLemmas.{flat_in, in_flat, tables_in}
 use Rattle.leveldb_files.proofs.Levels.OutputLevelLemmas.{output_level_is_free}
 use Rattle.leveldb_files.proofs.Histories.SafeLemmas.{some_is}
-use Rattle.leveldb_version.proofs.Engines.ShownLemmas.{same_memory_shows, new_table_is_shown}
+use Rattle.leveldb_version_set.proofs.Engines.ShownLemmas.{same_memory_shows, new_table_is_shown}
 use Rattle.leveldb_files.proofs.Levels.TablesLemmas.{one_store_table, tables_bounded}
-use Rattle.leveldb_version.proofs.Sets.TrackedLemmas.{live_is_below, next_is_free, numbered_up_to}
+use Rattle.leveldb_version_set.proofs.Sets.TrackedLemmas.{live_is_below, next_is_free, numbered_up_to}
 use Rattle.leveldb_files.proofs.Histories.ViewsLemmas.{same_sets, view_trans}
-use Rattle.leveldb_version.proofs.Engines.ImmLemmas.{imm_in_logs, imm_becomes_table}
-use Rattle.leveldb_version.proofs.Engines.WrittenLemmas.{new_table_unread, written_given, written_unread}
+use Rattle.leveldb_version_set.proofs.Engines.ImmLemmas.{imm_in_logs, imm_becomes_table}
+use Rattle.leveldb_version_set.proofs.Engines.WrittenLemmas.{new_table_unread, written_given, written_unread}
 use Rattle.leveldb_files.specs.Stores.Contents.{Store}
 use Rattle.leveldb_version.specs.Edits.FullEdit.{files_with}
 use Rattle.leveldb_files.specs.Levels.Levels.{CanBeAdded, IsBounded, LiveTable, table_entries}
-use Rattle.leveldb_version.specs.Sets.LogEdit.{AppendingAndSyncing, edit_record, set_appended, with_bytes_kept, written_edit}
-use Rattle.leveldb_version.specs.Engines.Opening.{FitsEdit}
+use Rattle.leveldb_version_set.specs.Sets.LogEdit.{AppendingAndSyncing, edit_record, set_appended, with_bytes_kept, written_edit}
+use Rattle.leveldb_version_set.specs.Engines.Opening.{FitsEdit}
 use Rattle.leveldb_files.specs.Levels.Overlap.{file_range, output_level}
 use Rattle.leveldb_files.specs.Stores.Paths.{IsFilePath, log_path, table_path}
 use Rattle.leveldb_files.specs.Stores.Store.{HasTable, HasTables, OneTableReading, SameEntries}
 use Rattle.leveldb_files.specs.Steps.StoreSteps.{AppendedAreBytes, IsKept, IsUnread, KeepsHistory}
 use Rattle.leveldb_files.specs.Edits.Edit.{Edit, NewFile}
 use Rattle.leveldb_files.specs.Edits.VersionSet.{is_same_file, level_file, live_after}
-use Rattle.leveldb_version.specs.Sets.VersionSetValue.{VersionSetValue, with_number_given}
-use Rattle.leveldb_version.specs.Engines.Writing.{EngineMemory, IsNumberedUpTo, IsWrittenBy, ShowsHistory, table_edit}
-use Rattle.leveldb_version.specs.Engines.WritingLaws.{HasImm, TablesAreInRange, ImmBecomesTable}
+use Rattle.leveldb_version_set.specs.Sets.VersionSetValue.{VersionSetValue, with_number_given}
+use Rattle.leveldb_version_set.specs.Engines.Writing.{EngineMemory, IsNumberedUpTo, IsWrittenBy, ShowsHistory, table_edit}
+use Rattle.leveldb_version_set.specs.Engines.WritingLaws.{HasImm, TablesAreInRange, ImmBecomesTable}
 use Rattle.leveldb_store.proofs.Keeping.LevelForLemmas.{output_level_fits}
 use Rattle.leveldb_files.specs.Stores.Format.{IsTableOf, Meaning}
 use Rattle.leveldb_store.specs.Keeping.OpenStore.{OpenStoreValue}

@@ -5,7 +5,7 @@ use Rattle.std.specs.declared.cmp.Ordering.{Ordering}
 use Rattle.leveldb_base.specs.History.{History}
 use Rattle.leveldb_env.proofs.EnvLemmas.{Run-trans}
 use Rattle.leveldb_env.specs.Env.{Files, Observed, Run}
-use Rattle.leveldb_version.proofs.Compactions.ShownFromLemmas.{keeps_both, keeps_each, shown_later}
+use Rattle.leveldb_version_set.proofs.Compactions.ShownFromLemmas.{keeps_both, keeps_each, shown_later}
 use Rattle.leveldb_files.specs.Stores.Format.{IsTableOf, Meaning}
 use Rattle.leveldb_files.specs.Steps.StoreSteps.{KeepsHistory}
 use Rattle.leveldb_store.proofs.Keeping.TableKeepsLemmas.{KeepsHistory-trans}

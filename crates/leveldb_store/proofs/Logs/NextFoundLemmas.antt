@@ -18,7 +18,7 @@ use Rattle.leveldb_mem.specs.WriteBatch.{Batch}
 use Rattle.leveldb_mem.specs.WriteBatchLaws.{BatchOf-one}
 use Rattle.leveldb_mem.specs.declared.log.reader.Found.{Found}
 use Rattle.leveldb_files.specs.Stores.Batches.{Each, IsRecordOf}
-use Rattle.leveldb_version.specs.Repairs.Found.{IsFoundLog, IsNumberedBatch}
+use Rattle.leveldb_version_set.specs.Repairs.Found.{IsFoundLog, IsNumberedBatch}
 use Rattle.leveldb_files.specs.Stores.Paths.{log_path}
 use Rattle.leveldb_store.specs.Logs.LogReplay.{HasReadBatches, IsLogToRead, IsReadOutAs, LogReplayState, ReadsBatch}
 use Rattle.leveldb_store.specs.Logs.NextFound.{AreAllFound, BeginsAt, FailsToFindBatch, FindsAfter, FindsNextBatch, HasEntryNumbers, HasFoundBatches, IsFileToRead, TellsNumbered}

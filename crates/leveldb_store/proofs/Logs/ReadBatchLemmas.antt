@@ -14,7 +14,7 @@ use Rattle.leveldb_env.specs.declared.env.Env.{Ghosts}
 use Rattle.leveldb_mem.specs.Log.Reader.{FindsEnd, FindsRecord, FindsWrongChecksum, HoldsOfRest, IsTorn, ReaderState, StopsReading, at_end, whatever_follows}
 use Rattle.leveldb_mem.specs.WriteBatch.{Batch, IsBatch}
 use Rattle.leveldb_mem.specs.declared.log.reader.Found.{Found}
-use Rattle.leveldb_version.proofs.Sets.RecoverLemmas.{cause_of_error}
+use Rattle.leveldb_version_set.proofs.Sets.RecoverLemmas.{cause_of_error}
 use Rattle.leveldb_files.specs.Stores.Batches.{IsRecordOf}
 use Rattle.leveldb_store.specs.Logs.LogReplay.{FailsToReadBatch, FindsBatch, HasReadBatches, LogReplayState, ReadsBatch}
 use Rattle.leveldb_store.specs.declared.log_replay.NextBatch.{NextBatch}

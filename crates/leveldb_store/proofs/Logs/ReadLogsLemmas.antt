@@ -17,7 +17,7 @@ use Rattle.leveldb_mem.specs.MemTable.{FailsToPrepare, bytes_in, memory_of_entri
 use Rattle.leveldb_mem.specs.WriteBatch.{Batch}
 use Rattle.leveldb_files.proofs.Stores.LogsLemmas.{all_append, batches_parts, order_append}
 use Rattle.leveldb_files.proofs.Histories.NumbersLemmas.{greatest_append, up_to_greatest}
-use Rattle.leveldb_version.proofs.Sets.RecoverLemmas.{cause_of_error}
+use Rattle.leveldb_version_set.proofs.Sets.RecoverLemmas.{cause_of_error}
 use Rattle.leveldb_files.specs.Stores.Batches.{AreInOrder, all_entries, batch_entries}
 use Rattle.leveldb_files.specs.Stores.Paths.{log_path}
 use Rattle.leveldb_files.specs.Stores.Store.{HasLog, ReplayedLog as StoreLog, log_batches, log_entries}

@@ -5,7 +5,7 @@ use Rattle.std.proofs.lemmas.List.{append-nil}
 use Rattle.leveldb_base.proofs.HistoryLemmas.{in_cases, in_none}
 use Rattle.leveldb_env.specs.declared.env.Env.{Ghosts}
 use Rattle.leveldb_files.specs.Levels.Levels.{LiveTable, table_entries}
-use Rattle.leveldb_version.specs.Sets.VersionSetValue.{VersionSetValue}
+use Rattle.leveldb_version_set.specs.Sets.VersionSetValue.{VersionSetValue}
 use Rattle.leveldb_files.specs.Stores.Format.{Format}
 use Rattle.leveldb_store.specs.Openings.Opening.{IsMadeTable}
 use Rattle.leveldb_store.specs.Openings.OpeningSteps.{TablesAll}

@@ -10,12 +10,12 @@ use Rattle.leveldb_base.specs.declared.types.FileType.TheVariants.{Log, Table}
 use Rattle.leveldb_env.specs.Env.{Files}
 use Rattle.leveldb_mem.specs.Log.{bad}
 use Rattle.leveldb_mem.specs.WriteBatch.{Batch}
-use Rattle.leveldb_version.proofs.Engines.LogsBelowLemmas.{one_there}
+use Rattle.leveldb_version_set.proofs.Engines.LogsBelowLemmas.{one_there}
 use Rattle.leveldb_files.proofs.Stores.LogsLemmas.{batches_parts, order_after, order_low, split_at, splits_at}
 use Rattle.leveldb_files.specs.Stores.Batches.{AreInOrder, batch_entries}
 use Rattle.leveldb_files.specs.Stores.Paths.{log_path, table_path}
 use Rattle.leveldb_files.specs.Stores.Store.{HasLog, ReplayedLog as StoreLog, log_batches, log_entries}
-use Rattle.leveldb_version.specs.Sets.VersionSetValue.{VersionSetValue}
+use Rattle.leveldb_version_set.specs.Sets.VersionSetValue.{VersionSetValue}
 use Rattle.leveldb_store.specs.Openings.Opening.{SameButTables}
 use Rattle.leveldb_store.specs.Openings.OpeningSteps.{AreDamagedLogs, AreLogs, BadEndsEnd}
 

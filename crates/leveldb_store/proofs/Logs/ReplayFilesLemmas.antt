@@ -13,8 +13,8 @@ use Rattle.leveldb_env.specs.declared.env.Env.{Ghosts}
 use Rattle.leveldb_files.proofs.Stores.ManagedLemmas.{kinds_apart, managed_on}
 use Rattle.leveldb_files.proofs.Stores.ManifestLemmas.{edits_on, managed_of}
 use Rattle.leveldb_files.proofs.Steps.ObsoleteLemmas.{missing_unread}
-use Rattle.leveldb_version.proofs.Engines.RecoveringLemmas.{recovered_given}
-use Rattle.leveldb_version.proofs.Sets.TrackedLemmas.{next_is_free, numbered_up_to, numbers_still, tracked_still}
+use Rattle.leveldb_version_set.proofs.Engines.RecoveringLemmas.{recovered_given}
+use Rattle.leveldb_version_set.proofs.Sets.TrackedLemmas.{next_is_free, numbered_up_to, numbers_still, tracked_still}
 use Rattle.leveldb_files.proofs.Steps.UnreadLemmas.{unnamed_on, unread_stays_safe}
 use Rattle.leveldb_files.specs.Stores.Contents.{Contents, Store}
 use Rattle.leveldb_files.specs.Stores.Paths.{current_path, table_path}
@@ -22,8 +22,8 @@ use Rattle.leveldb_files.specs.Stores.Store.{IsStore}
 use Rattle.leveldb_files.specs.Steps.StoreSteps.{AppendedAreBytes, IsKept, IsUnnamed, KeepsHistory}
 use Rattle.leveldb_files.specs.Edits.Edit.{Edit, NewFile}
 use Rattle.leveldb_files.specs.Edits.VersionSet.{live_after}
-use Rattle.leveldb_version.specs.Sets.VersionSetValue.{VersionSetValue, with_number_given}
-use Rattle.leveldb_version.specs.Engines.Writing.{IsRecoveredBy}
+use Rattle.leveldb_version_set.specs.Sets.VersionSetValue.{VersionSetValue, with_number_given}
+use Rattle.leveldb_version_set.specs.Engines.Writing.{IsRecoveredBy}
 use Rattle.leveldb_files.specs.Stores.Format.{IsTableOf, Meaning}
 use Rattle.leveldb_store.specs.Openings.Opening.{GivesNumbers, SameButTables}
 use Rattle.leveldb_store.specs.Logs.ReplayLog.{MakesTablesOnly}

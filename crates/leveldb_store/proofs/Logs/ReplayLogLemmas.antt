@@ -34,13 +34,13 @@ use Rattle.leveldb_files.proofs.Stores.OneStoreLemmas.{flat_in}
 use Rattle.leveldb_files.proofs.Stores.StoreTablesLemmas.{held_tables_by_more}
 use Rattle.leveldb_files.specs.Stores.Batches.{Each, all_entries, batch_entries}
 use Rattle.leveldb_files.specs.Levels.Levels.{LiveTable, table_entries}
-use Rattle.leveldb_version.specs.Engines.Opening.{IsMadeBefore}
+use Rattle.leveldb_version_set.specs.Engines.Opening.{IsMadeBefore}
 use Rattle.leveldb_files.specs.Stores.Paths.{table_path}
 use Rattle.leveldb_files.specs.Stores.Store.{IsInternalPair}
 use Rattle.leveldb_files.specs.Steps.StoreSteps.{IsKept}
 use Rattle.leveldb_files.specs.Edits.Edit.{NewFile}
 use Rattle.leveldb_version.specs.Edits.VersionEdit.{new_file_of}
-use Rattle.leveldb_version.specs.Sets.VersionSetValue.{AreFileNumbersUsedUp, VersionSetValue, with_number_given}
+use Rattle.leveldb_version_set.specs.Sets.VersionSetValue.{AreFileNumbersUsedUp, VersionSetValue, with_number_given}
 use Rattle.leveldb_store.specs.Tables.BuildTable.{IsNotBuilt, MakesTable, TableChoices}
 use Rattle.leveldb_files.specs.Stores.Format.{Agrees, Format, IsTableOf, Meaning}
 use Rattle.leveldb_store.specs.Logs.FoundLogs.{AreLastEntries, FailsToKeep, FailsToTable}

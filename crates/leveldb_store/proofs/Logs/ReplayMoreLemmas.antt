@@ -16,12 +16,12 @@ use Rattle.leveldb_files.proofs.Histories.NumbersLemmas.{greatest_append, up_to_
 use Rattle.leveldb_files.proofs.Stores.OneStoreLemmas.{flat_in}
 use Rattle.leveldb_files.specs.Stores.Batches.{AreInOrder, all_entries}
 use Rattle.leveldb_files.specs.Levels.Levels.{LiveTable, table_entries}
-use Rattle.leveldb_version.specs.Engines.Opening.{IsMadeBefore}
+use Rattle.leveldb_version_set.specs.Engines.Opening.{IsMadeBefore}
 use Rattle.leveldb_files.specs.Stores.Paths.{log_path}
 use Rattle.leveldb_files.specs.Stores.Store.{HasLog, ReplayedLog as StoreLog, SameEntries, log_batches, log_entries}
 use Rattle.leveldb_files.specs.Edits.Edit.{NewFile}
 use Rattle.leveldb_version.specs.Edits.VersionEdit.{new_file_of}
-use Rattle.leveldb_version.specs.Sets.VersionSetValue.{VersionSetValue}
+use Rattle.leveldb_version_set.specs.Sets.VersionSetValue.{VersionSetValue}
 use Rattle.leveldb_files.specs.Stores.Format.{Meaning}
 use Rattle.leveldb_store.specs.Openings.Opening.{AreMadeTables, GivesNumbers, IsMadeTable, ReplaysLog, SameButTables}
 use Rattle.leveldb_store.specs.Openings.OpeningSteps.{AreDamagedLogs, AreLogs, AreInTablesBut, HasReplayedLogs}

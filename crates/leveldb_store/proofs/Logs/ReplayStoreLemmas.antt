@@ -14,11 +14,11 @@ use Rattle.leveldb_mem.specs.Log.{bad, clean}
 use Rattle.leveldb_mem.specs.MemTable.{bytes_in}
 use Rattle.leveldb_mem.specs.WriteBatch.{Batch}
 use Rattle.leveldb_files.proofs.Stores.LogsLemmas.{order_after}
-use Rattle.leveldb_version.proofs.Sets.RecoverLemmas.{cause_of_error}
+use Rattle.leveldb_version_set.proofs.Sets.RecoverLemmas.{cause_of_error}
 use Rattle.leveldb_files.specs.Stores.Batches.{AreInOrder, all_entries}
 use Rattle.leveldb_files.specs.Stores.Paths.{log_path}
 use Rattle.leveldb_files.specs.Stores.Store.{HasLog, ReplayedLog as StoreLog}
-use Rattle.leveldb_version.specs.Sets.VersionSetValue.{VersionSetValue}
+use Rattle.leveldb_version_set.specs.Sets.VersionSetValue.{VersionSetValue}
 use Rattle.leveldb_store.specs.Tables.BuildTable.{TableChoices}
 use Rattle.leveldb_files.specs.Stores.Format.{Format}
 use Rattle.leveldb_store.specs.Logs.FoundLogs.{FailsToTable}

@@ -10,7 +10,7 @@ use Rattle.leveldb_mem.specs.Log.{AreFragments, IsLogFile, clean, log_block_size
 use Rattle.leveldb_mem.specs.WriteBatch.{Batch}
 use Rattle.leveldb_table.specs.TableBlock.{KeepsDisk}
 use Rattle.leveldb_files.specs.Stores.Paths.{log_path}
-use Rattle.leveldb_version.specs.Sets.VersionSetValue.{VersionSetValue}
+use Rattle.leveldb_version_set.specs.Sets.VersionSetValue.{VersionSetValue}
 use Rattle.leveldb_store.specs.Logs.Damage.{AreWholeUpTo, IsDamagedFile, LosesRecords}
 use Rattle.leveldb_store.specs.Logs.LogReplay.{EndsCleanly, FindsBatch, HasReadBatches, IsLogToRead, LogReplayState, ReadsBatch}
 use Rattle.leveldb_store.specs.declared.log_replay.NextBatch.{NextBatch}

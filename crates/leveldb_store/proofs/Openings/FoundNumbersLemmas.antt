@@ -12,13 +12,13 @@ use Rattle.leveldb_mem.specs.WriteBatch.{Batch}
 use Rattle.leveldb_files.proofs.Stores.ManifestLemmas.{one_has_edits}
 use Rattle.leveldb_files.proofs.Histories.SafeLemmas.{some_is}
 use Rattle.leveldb_files.proofs.Edits.VersionSetLemmas.{none_is_some}
-use Rattle.leveldb_version.specs.Sets.NewStore.{first_edit, first_manifest}
+use Rattle.leveldb_version_set.specs.Sets.NewStore.{first_edit, first_manifest}
 use Rattle.leveldb_files.specs.Stores.Paths.{current_path, log_path}
-use Rattle.leveldb_version.specs.Sets.Recover.{next_number_after}
+use Rattle.leveldb_version_set.specs.Sets.Recover.{next_number_after}
 use Rattle.leveldb_files.specs.Stores.Store.{HasEdits}
 use Rattle.leveldb_files.specs.Edits.Edit.{Edit}
 use Rattle.leveldb_files.specs.Edits.VersionSet.{level_file, live_after}
-use Rattle.leveldb_version.specs.Sets.VersionSetValue.{VersionSetValue, new_version_set}
+use Rattle.leveldb_version_set.specs.Sets.VersionSetValue.{VersionSetValue, new_version_set}
 use Rattle.leveldb_store.proofs.Openings.OpeningFrontLemmas.{IsFoundOrMade}
 use Rattle.leveldb_store.proofs.Openings.OpeningMadeLemmas.{made_edits, made_edits_there, made_no_log_there, named_manifest, there_before}
 use Rattle.leveldb_store.specs.Logs.FoundLogs.{LogBeginsWith}

@@ -14,8 +14,8 @@ use Rattle.leveldb_base.specs.declared.error.Status.{Status}
 use Rattle.leveldb_base.specs.declared.types.FileType.{FileType}
 use Rattle.leveldb_base.specs.declared.types.FileType.TheVariants.{Current, Log, Table}
 use Rattle.leveldb_env.specs.declared.env.Env.{Ghosts}
-use Rattle.leveldb_version.proofs.Sets.RecoverLemmas.{cause_of_error}
-use Rattle.leveldb_version.specs.Sets.VersionSetValue.{AreFileNumbersUsedUp, VersionSetValue}
+use Rattle.leveldb_version_set.proofs.Sets.RecoverLemmas.{cause_of_error}
+use Rattle.leveldb_version_set.specs.Sets.VersionSetValue.{AreFileNumbersUsedUp, VersionSetValue}
 use Rattle.leveldb_store.specs.Openings.Listing.{AddsFile, AreFilesIn, AreFilesOf, AreNamesIn, MatchesName, names_of}
 use Rattle.leveldb_store.specs.Logs.ReplayLog.{HasCauseOr}
 use Rattle.leveldb_store.specs.Openings.OpeningSteps.{AreReplayedLogs, ChecksSet, HasMisnamedLog, HasNumber, HasTableOrLog, MarksNames, WhyUnchecked}

@@ -17,17 +17,17 @@ use Rattle.leveldb_env.specs.Env.{BeforeOrAfter, Files, HasCause, Run, SameBut, 
 use Rattle.leveldb_env.specs.WholeFiles.{IsLost, IsLostUnobserved}
 use Rattle.leveldb_env.specs.declared.env.Env.{Ghosts}
 use Rattle.leveldb_env.specs.declared.filter.FilterPolicy.{Ghosts as FilterGhosts}
-use Rattle.leveldb_version.proofs.Sets.TracksLemmas.{not_unmade, one_in_use}
+use Rattle.leveldb_version_set.proofs.Sets.TracksLemmas.{not_unmade, one_in_use}
 use Rattle.leveldb_mem.specs.Log.Writer.{WriterState}
 use Rattle.leveldb_mem.specs.MemTable.{Kept, MemTableState, memory_of_entries}
 use Rattle.leveldb_files.specs.Stores.Contents.{Contents}
-use Rattle.leveldb_version.specs.Sets.CurrentFile.{temp_path}
-use Rattle.leveldb_version.specs.Sets.LogEdit.{LogEditResult}
-use Rattle.leveldb_version.specs.Engines.Opening.{tables_edit}
+use Rattle.leveldb_version_set.specs.Sets.CurrentFile.{temp_path}
+use Rattle.leveldb_version_set.specs.Sets.LogEdit.{LogEditResult}
+use Rattle.leveldb_version_set.specs.Engines.Opening.{tables_edit}
 use Rattle.leveldb_files.specs.Stores.Paths.{IsFilePath, log_path, manifest_path, table_path}
 use Rattle.leveldb_files.specs.Steps.StoreSteps.{KeepsHistory}
 use Rattle.leveldb_files.specs.Edits.Edit.{Edit, NewFile}
-use Rattle.leveldb_version.specs.Sets.VersionSetValue.{AreFileNumbersUsedUp, ManifestState, OpenManifest, VersionSetValue, broken, in_use, unmade, with_number_given}
+use Rattle.leveldb_version_set.specs.Sets.VersionSetValue.{AreFileNumbersUsedUp, ManifestState, OpenManifest, VersionSetValue, broken, in_use, unmade, with_number_given}
 use Rattle.leveldb_store.proofs.Logs.FoundLogsLemmas.{lacks_one_more}
 use Rattle.leveldb_store.proofs.Keeping.GivenNumbersLemmas.{given_later}
 use Rattle.leveldb_store.proofs.Openings.OpeningBytesLemmas.{log_bytes, logging_bytes, made_keys_bytes, made_tables_there}

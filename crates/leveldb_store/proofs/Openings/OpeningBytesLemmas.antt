@@ -12,15 +12,15 @@ use Rattle.leveldb_env.specs.declared.env.Env.{Ghosts}
 use Rattle.leveldb_mem.specs.Log.Writer.{frame}
 use Rattle.leveldb_mem.specs.MemTable.{MemTableState}
 use Rattle.leveldb_files.proofs.Steps.BytesLemmas.{bytes_stay}
-use Rattle.leveldb_version.proofs.Sets.EditRecordLemmas.{KeysAreBytes, tables_record_bytes}
-use Rattle.leveldb_version.proofs.Sets.LogKeepsLemmas.{framed_are_bytes}
+use Rattle.leveldb_version_set.proofs.Sets.EditRecordLemmas.{KeysAreBytes, tables_record_bytes}
+use Rattle.leveldb_version_set.proofs.Sets.LogKeepsLemmas.{framed_are_bytes}
 use Rattle.leveldb_files.specs.Levels.Levels.{LiveTable}
-use Rattle.leveldb_version.specs.Sets.LogEdit.{LogEditResult, edit_record}
-use Rattle.leveldb_version.specs.Engines.Opening.{tables_edit}
+use Rattle.leveldb_version_set.specs.Sets.LogEdit.{LogEditResult, edit_record}
+use Rattle.leveldb_version_set.specs.Engines.Opening.{tables_edit}
 use Rattle.leveldb_files.specs.Stores.Paths.{log_path, table_path}
 use Rattle.leveldb_files.specs.Steps.StoreSteps.{AppendedAreBytes}
 use Rattle.leveldb_files.specs.Edits.Edit.{Edit, NewFile}
-use Rattle.leveldb_version.specs.Sets.VersionSetValue.{ManifestState, VersionSetValue, broken, in_use, unmade}
+use Rattle.leveldb_version_set.specs.Sets.VersionSetValue.{ManifestState, VersionSetValue, broken, in_use, unmade}
 use Rattle.leveldb_store.proofs.Openings.OpeningEndLemmas.{made_levels_fit}
 use Rattle.leveldb_store.proofs.Keeping.SoundLemmas.{appending_bytes}
 use Rattle.leveldb_files.specs.Stores.Format.{Agrees, Format, Meaning}

@@ -9,8 +9,8 @@ use Rattle.leveldb_base.specs.declared.error.StatusCode.TheVariants.{Corruption}
 use Rattle.leveldb_env.specs.Env.{Files, HasCause, IsEmptyFolder, IsMissing, Observed}
 use Rattle.leveldb_env.specs.WholeFiles.{IsFoundOr, IsMissingFile}
 use Rattle.leveldb_env.proofs.WholeFilesLemmas.{found_cause, found_ok}
-use Rattle.leveldb_version.proofs.Sets.RecoverLemmas.{cause_of_error}
-use Rattle.leveldb_version.proofs.Sets.UsableLemmas.{as_new_files, files_more}
+use Rattle.leveldb_version_set.proofs.Sets.RecoverLemmas.{cause_of_error}
+use Rattle.leveldb_version_set.proofs.Sets.UsableLemmas.{as_new_files, files_more}
 use Rattle.leveldb_files.specs.Stores.Paths.{table_path}
 use Rattle.leveldb_files.specs.Edits.Edit.{NewFile}
 use Rattle.leveldb_version.specs.Edits.VersionEdit.{new_file_of}

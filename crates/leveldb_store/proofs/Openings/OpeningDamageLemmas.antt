@@ -26,18 +26,18 @@ use Rattle.leveldb_mem.specs.Log.{IsLogFile}
 use Rattle.leveldb_table.specs.Block.{KeysRise, RiseAfter}
 use Rattle.leveldb_files.proofs.Edits.CurrentLemmas.{one_current}
 use Rattle.leveldb_files.proofs.Stores.ManifestLemmas.{one_has_edits}
-use Rattle.leveldb_version.proofs.Sets.RecoverLemmas.{some_and}
+use Rattle.leveldb_version_set.proofs.Sets.RecoverLemmas.{some_and}
 use Rattle.leveldb_files.proofs.Histories.SafeLemmas.{some_is}
 use Rattle.leveldb_files.specs.Stores.Batches.{Each}
 use Rattle.leveldb_files.specs.Stores.Contents.{Contents, made}
 use Rattle.leveldb_files.specs.Edits.Current.{IsCurrentText}
 use Rattle.leveldb_files.specs.Levels.Levels.{AreDisjoint, LiveTable}
 use Rattle.leveldb_files.specs.Stores.Paths.{current_path, table_path}
-use Rattle.leveldb_version.specs.Sets.Recover.{AreBeside, HasRecordOfNoEdit, IsNamed, Overlap, WhyUnusable, no_comparator, no_last, no_log, no_next_file, no_range, number_too_great, other_comparator, overlapping, shared_user_key}
+use Rattle.leveldb_version_set.specs.Sets.Recover.{AreBeside, HasRecordOfNoEdit, IsNamed, Overlap, WhyUnusable, no_comparator, no_last, no_log, no_next_file, no_range, number_too_great, other_comparator, overlapping, shared_user_key}
 use Rattle.leveldb_files.specs.Stores.Store.{HasEdits, HasTable, IsManagedBy, LogIsReplayed, any_user_key}
 use Rattle.leveldb_files.specs.Edits.Edit.{Edit, IsEdit, NewFile}
 use Rattle.leveldb_files.specs.Edits.VersionSet.{IsKeyRange, level_file, live_after}
-use Rattle.leveldb_version.specs.Engines.Writing.{NumbersAreBelow}
+use Rattle.leveldb_version_set.specs.Engines.Writing.{NumbersAreBelow}
 use Rattle.leveldb_files.specs.Stores.Format.{Format, IsTableOf, Meaning}
 use Rattle.leveldb_store.specs.Openings.OpeningSteps.{HasMisnamedLog, IsReplayed, LacksTable, IsUnsupported}
 use Rattle.leveldb_store.specs.Openings.OpensStore.{HasOtherComparator, IsDamaged, IsOrderFor}

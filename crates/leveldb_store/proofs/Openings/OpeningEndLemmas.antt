@@ -21,22 +21,22 @@ use Rattle.leveldb_env.specs.Env.{BeforeOrAfter, Files, Run, SameBut, deleted, e
 use Rattle.leveldb_env.specs.declared.env.Env.{Ghosts}
 use Rattle.leveldb_mem.specs.Log.{log_block_size}
 use Rattle.leveldb_mem.specs.Log.Writer.{after_frame, frame, new_writer}
-use Rattle.leveldb_version.proofs.Engines.OpeningEndLemmas.{openings_end, openings_go_on}
+use Rattle.leveldb_version_set.proofs.Engines.OpeningEndLemmas.{openings_end, openings_go_on}
 use Rattle.leveldb_files.specs.Stores.Contents.{Contents, Store, made}
-use Rattle.leveldb_version.specs.Sets.CurrentFile.{temp_path}
+use Rattle.leveldb_version_set.specs.Sets.CurrentFile.{temp_path}
 use Rattle.leveldb_files.specs.Histories.Holds.{Holds}
 use Rattle.leveldb_version.specs.Edits.FullEdit.{full_after}
-use Rattle.leveldb_version.specs.Sets.LogEdit.{AppendingAndSyncing, AppendsEdit, BeginsManifest, LogEditResult, edit_record, new_manifest, new_records, set_appended, set_begun, with_bytes_kept, written_edit}
-use Rattle.leveldb_version.specs.Sets.NewManifest.{MakingManifest, manifest_bytes, with_manifest}
-use Rattle.leveldb_version.specs.Engines.Opening.{opened_memory, tables_edit}
-use Rattle.leveldb_version.specs.Engines.OpeningLaws.{EndsOpening, IsOpened}
+use Rattle.leveldb_version_set.specs.Sets.LogEdit.{AppendingAndSyncing, AppendsEdit, BeginsManifest, LogEditResult, edit_record, new_manifest, new_records, set_appended, set_begun, with_bytes_kept, written_edit}
+use Rattle.leveldb_version_set.specs.Sets.NewManifest.{MakingManifest, manifest_bytes, with_manifest}
+use Rattle.leveldb_version_set.specs.Engines.Opening.{opened_memory, tables_edit}
+use Rattle.leveldb_version_set.specs.Engines.OpeningLaws.{EndsOpening, IsOpened}
 use Rattle.leveldb_files.specs.Stores.Paths.{IsFilePath, current_path, log_path, manifest_path, table_path}
 use Rattle.leveldb_files.specs.Stores.Store.{IsStore}
 use Rattle.leveldb_files.specs.Steps.StoreSteps.{KeepsHistory}
 use Rattle.leveldb_files.specs.Edits.Edit.{Edit, LevelsFit, NewFile}
 use Rattle.leveldb_version.specs.Edits.VersionEdit.{new_file_of}
-use Rattle.leveldb_version.specs.Sets.VersionSetValue.{ManifestState, OpenManifest, VersionSetValue, broken, in_use, unmade}
-use Rattle.leveldb_version.specs.Engines.Writing.{IsWrittenBy}
+use Rattle.leveldb_version_set.specs.Sets.VersionSetValue.{ManifestState, OpenManifest, VersionSetValue, broken, in_use, unmade}
+use Rattle.leveldb_version_set.specs.Engines.Writing.{IsWrittenBy}
 use Rattle.leveldb_files.specs.Stores.Format.{IsTableOf, Meaning}
 use Rattle.leveldb_store.specs.Keeping.OpenStore.{AreInLevels, AreNumbersGiven, HasOwnManifest, OpenStoreValue}
 use Rattle.leveldb_store.specs.Openings.OpeningSteps.{LogsTables, files_to_write, made_files, number_to_write}

@@ -19,10 +19,10 @@ use Rattle.leveldb_env.proofs.EnvLemmas.{Run-call, Run-mono, Run-trans}
 use Rattle.leveldb_env.specs.Env.{ChangesFiles, Files, FilesUnchanged, HasCause, ListsChildren, Run, SameLocks, in_folder}
 use Rattle.leveldb_env.specs.WholeFiles.{IsLostUnobserved}
 use Rattle.leveldb_env.specs.declared.env.Env.{Ghosts}
-use Rattle.leveldb_version.proofs.Sets.RecoverLemmas.{cause_of_error}
-use Rattle.leveldb_version.specs.Sets.CurrentFile.{temp_path}
-use Rattle.leveldb_version.specs.Sets.NewManifest.{MakingManifest, with_manifest}
-use Rattle.leveldb_version.specs.Sets.NewStore.{MakeStoreResult, first_edit, first_manifest}
+use Rattle.leveldb_version_set.proofs.Sets.RecoverLemmas.{cause_of_error}
+use Rattle.leveldb_version_set.specs.Sets.CurrentFile.{temp_path}
+use Rattle.leveldb_version_set.specs.Sets.NewManifest.{MakingManifest, with_manifest}
+use Rattle.leveldb_version_set.specs.Sets.NewStore.{MakeStoreResult, first_edit, first_manifest}
 use Rattle.leveldb_files.specs.Stores.Paths.{current_path}
 use Rattle.leveldb_files.specs.Stores.Store.{HasNoStore}
 use Rattle.leveldb_files.specs.Steps.StoreSteps.{AppendedAreBytes}

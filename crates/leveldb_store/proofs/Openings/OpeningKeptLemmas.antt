@@ -11,15 +11,15 @@ use Rattle.leveldb_env.proofs.EnvLemmas.{Run-call, Run-mono, SameBut-emptied, by
 use Rattle.leveldb_env.specs.Env.{BeforeOrAfter, File, Files, FilesUnchanged, Run, created, in_folder, synced}
 use Rattle.leveldb_env.specs.declared.env.Env.{Ghosts}
 use Rattle.leveldb_mem.specs.Log.Writer.{frame}
-use Rattle.leveldb_version.specs.Sets.LogEdit.{edit_record, new_records}
-use Rattle.leveldb_version.specs.Sets.CurrentFile.{temp_path}
-use Rattle.leveldb_version.specs.Sets.NewManifest.{MakingManifest, manifest_bytes}
+use Rattle.leveldb_version_set.specs.Sets.LogEdit.{edit_record, new_records}
+use Rattle.leveldb_version_set.specs.Sets.CurrentFile.{temp_path}
+use Rattle.leveldb_version_set.specs.Sets.NewManifest.{MakingManifest, manifest_bytes}
 use Rattle.leveldb_files.specs.Stores.Format.{Format}
-use Rattle.leveldb_version.specs.Engines.Opening.{tables_edit}
+use Rattle.leveldb_version_set.specs.Engines.Opening.{tables_edit}
 use Rattle.leveldb_files.specs.Stores.Paths.{current_path, log_path, manifest_path}
 use Rattle.leveldb_files.specs.Edits.Edit.{Edit}
-use Rattle.leveldb_version.specs.Sets.VersionSetValue.{ManifestState, VersionSetValue, broken, in_use, unmade}
-use Rattle.leveldb_version.specs.Engines.Writing.{NumbersAreBelow}
+use Rattle.leveldb_version_set.specs.Sets.VersionSetValue.{ManifestState, VersionSetValue, broken, in_use, unmade}
+use Rattle.leveldb_version_set.specs.Engines.Writing.{NumbersAreBelow}
 use Rattle.leveldb_store.proofs.Keeping.KeptBytesLemmas.{keeps_still, loses_appending, loses_created, loses_made, loses_new, loses_none, loses_synced, loses_then, meanwhile_none, meanwhile_then}
 use Rattle.leveldb_store.proofs.Openings.OpeningEndLemmas.{made_levels_fit}
 use Rattle.leveldb_store.specs.Keeping.KeptBytes.{LosesNoBytes, LosesNoBytesMeanwhile, TableNumbersAreBelow}

@@ -33,20 +33,20 @@ use Rattle.leveldb_files.proofs.Stores.ManagedLemmas.{kinds_apart, log_on, manag
 use Rattle.leveldb_files.proofs.Steps.NewLogLemmas.{with_new_log}
 use Rattle.leveldb_files.proofs.Histories.NumbersLemmas.{greatest_append}
 use Rattle.leveldb_files.proofs.Stores.OneStoreLemmas.{logs_in, one_rising}
-use Rattle.leveldb_version.proofs.Engines.RecoveringLemmas.{recovered_after_new_log, recovered_numbered}
+use Rattle.leveldb_version_set.proofs.Engines.RecoveringLemmas.{recovered_after_new_log, recovered_numbered}
 use Rattle.leveldb_files.proofs.Histories.SafeLemmas.{some_is}
-use Rattle.leveldb_version.proofs.Sets.TrackedLemmas.{live_is_below, logs_still, next_is_free}
+use Rattle.leveldb_version_set.proofs.Sets.TrackedLemmas.{live_is_below, logs_still, next_is_free}
 use Rattle.leveldb_files.specs.Stores.Batches.{AreInOrder, all_entries, batch_entries}
 use Rattle.leveldb_files.specs.Stores.Contents.{Contents, Store}
 use Rattle.leveldb_files.specs.Levels.Levels.{LiveTable}
-use Rattle.leveldb_version.specs.Engines.Opening.{AreLogTables, FitsEdit, IsLogToWrite, IsMadeBefore}
+use Rattle.leveldb_version_set.specs.Engines.Opening.{AreLogTables, FitsEdit, IsLogToWrite, IsMadeBefore}
 use Rattle.leveldb_files.specs.Stores.Paths.{current_path, log_path, table_path}
 use Rattle.leveldb_files.specs.Stores.Store.{HasLog, HasLogs, IsManagedBy, LastNumbersFit, LogIsReplayed, LogsRise, ReplayedLog, log_batches, log_entries}
 use Rattle.leveldb_files.specs.Steps.StoreSteps.{AreLogsBelow, IsAboveLogs, IsKept, KeepsHistory}
 use Rattle.leveldb_files.specs.Edits.Edit.{Edit, NewFile}
 use Rattle.leveldb_files.specs.Edits.VersionSet.{FileSet, level_file, live_after}
-use Rattle.leveldb_version.specs.Sets.VersionSetValue.{VersionSetValue, with_number_given}
-use Rattle.leveldb_version.specs.Engines.Writing.{IsRecoveredBy}
+use Rattle.leveldb_version_set.specs.Sets.VersionSetValue.{VersionSetValue, with_number_given}
+use Rattle.leveldb_version_set.specs.Engines.Writing.{IsRecoveredBy}
 use Rattle.leveldb_files.specs.Stores.Format.{IsTableOf, Meaning}
 use Rattle.leveldb_store.specs.Openings.Opening.{IsMadeTable}
 use Rattle.leveldb_store.specs.Openings.OpeningSteps.{AreInTablesBut, HasReplayedLogs, entries_to_write, files_to_write, made_files, number_to_write, set_to_write, size_to_write}

@@ -16,27 +16,27 @@ use Rattle.leveldb_env.specs.Env.{Files, bytes_of, deleted, in_folder, kept_file
 use Rattle.leveldb_files.proofs.Steps.FirstCurrentLemmas.{new_managed}
 use Rattle.leveldb_files.proofs.Histories.HistoriesLemmas.{matches_nothing}
 use Rattle.leveldb_files.proofs.Stores.KeptLemmas.{kept_safe}
-use Rattle.leveldb_version.proofs.Sets.LogKeepsLemmas.{bytes_of_some}
+use Rattle.leveldb_version_set.proofs.Sets.LogKeepsLemmas.{bytes_of_some}
 use Rattle.leveldb_files.proofs.Stores.ManagedLemmas.{kinds_apart, numbers_apart}
-use Rattle.leveldb_version.proofs.Sets.NewManifestKeepsLemmas.{framed_is_manifest, manifest_named, step_three_is, temp_named, three_bytes, to_manifest}
-use Rattle.leveldb_version.proofs.Sets.NewStoreLemmas.{new_store_is_kept}
+use Rattle.leveldb_version_set.proofs.Sets.NewManifestKeepsLemmas.{framed_is_manifest, manifest_named, step_three_is, temp_named, three_bytes, to_manifest}
+use Rattle.leveldb_version_set.proofs.Sets.NewStoreLemmas.{new_store_is_kept}
 use Rattle.leveldb_files.proofs.Histories.SafeLemmas.{some_is}
 use Rattle.leveldb_files.proofs.Edits.EditLemmas.{written_is_read}
 use Rattle.leveldb_files.proofs.Edits.VersionSetLemmas.{none_is_some}
 use Rattle.leveldb_files.proofs.Edits.CurrentLemmas.{one_current, written_current}
 use Rattle.leveldb_files.specs.Stores.Contents.{Contents, Store, made}
 use Rattle.leveldb_files.specs.Edits.Current.{IsCurrentText, current_text}
-use Rattle.leveldb_version.specs.Sets.CurrentFile.{temp_path}
+use Rattle.leveldb_version_set.specs.Sets.CurrentFile.{temp_path}
 use Rattle.leveldb_files.specs.Histories.Holds.{MatchesHistory}
-use Rattle.leveldb_version.specs.Sets.NewManifest.{with_manifest}
-use Rattle.leveldb_version.specs.Sets.NewStore.{first_edit, first_manifest}
+use Rattle.leveldb_version_set.specs.Sets.NewManifest.{with_manifest}
+use Rattle.leveldb_version_set.specs.Sets.NewStore.{first_edit, first_manifest}
 use Rattle.leveldb_files.specs.Stores.Paths.{current_path, manifest_path}
-use Rattle.leveldb_version.specs.Sets.Recover.{IsNamed}
+use Rattle.leveldb_version_set.specs.Sets.Recover.{IsNamed}
 use Rattle.leveldb_files.specs.Stores.Store.{HasEdits, HasNoStore, IsManaged, IsManifest, LastNumbersFit, contents_of}
 use Rattle.leveldb_files.specs.Steps.StoreSteps.{AppendedAreBytes, IsAllKept, IsNew, KeepsHistory}
 use Rattle.leveldb_files.specs.Edits.Edit.{Edit, IsEncodable, edit_bytes}
 use Rattle.leveldb_files.specs.Edits.VersionSet.{live_after}
-use Rattle.leveldb_version.specs.Sets.VersionSetLaws.{NewStoreIsKept}
+use Rattle.leveldb_version_set.specs.Sets.VersionSetLaws.{NewStoreIsKept}
 use Rattle.leveldb_store.proofs.Keeping.TableKeepsLemmas.{KeepsHistory-refl}
 use Rattle.leveldb_files.specs.Stores.Format.{IsTableOf, Meaning}
 use Rattle.leveldb_store.specs.Openings.OpeningSteps.{IsBeingMade, IsMade}

@@ -20,7 +20,7 @@ use Rattle.leveldb_base.specs.declared.error.Status.{Status}
 use Rattle.leveldb_base.specs.declared.error.StatusCode.TheVariants.{Corruption}
 use Rattle.leveldb_base.specs.declared.types.FileType.{FileType}
 use Rattle.leveldb_base.specs.declared.types.FileType.TheVariants.{Log}
-use Rattle.leveldb_version.specs.Sets.VersionSetValue.{AreFileNumbersUsedUp, VersionSetValue, with_numbers_used}
+use Rattle.leveldb_version_set.specs.Sets.VersionSetValue.{AreFileNumbersUsedUp, VersionSetValue, with_numbers_used}
 use Rattle.leveldb_store.specs.Openings.Opening.{GivesNumbers}
 use Rattle.leveldb_store.specs.Openings.OpeningSteps.{AddsLog, AreReplayedLogs, HasMisnamedLog, HasNumber, IsReplayed, MarksNames}
 use Rattle.leveldb_store.specs.Openings.Listing.{MatchesName, names_of}

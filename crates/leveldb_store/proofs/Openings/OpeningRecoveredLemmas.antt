@@ -18,19 +18,19 @@ use Rattle.leveldb_files.proofs.Steps.CurrentKeptLemmas.{current_kept}
 use Rattle.leveldb_files.proofs.Steps.KeepsLemmas.{sync_keeps}
 use Rattle.leveldb_files.proofs.Stores.ManagedLemmas.{found_again, gone_again, log_on}
 use Rattle.leveldb_files.proofs.Stores.ManifestLemmas.{managed_of}
-use Rattle.leveldb_version.proofs.Sets.TracksLemmas.{next_is_above, not_unmade, one_in_use}
-use Rattle.leveldb_version.proofs.Engines.RecoveringLemmas.{recovered_sets_track, safe_stores_keep_tables, stores_are_recovered}
+use Rattle.leveldb_version_set.proofs.Sets.TracksLemmas.{next_is_above, not_unmade, one_in_use}
+use Rattle.leveldb_version_set.proofs.Engines.RecoveringLemmas.{recovered_sets_track, safe_stores_keep_tables, stores_are_recovered}
 use Rattle.leveldb_files.specs.Stores.Contents.{Contents, Store, made}
-use Rattle.leveldb_version.specs.Engines.Opening.{IsRecoveredBut}
-use Rattle.leveldb_version.specs.Engines.OpeningLaws.{RecoveredIsTracked}
+use Rattle.leveldb_version_set.specs.Engines.Opening.{IsRecoveredBut}
+use Rattle.leveldb_version_set.specs.Engines.OpeningLaws.{RecoveredIsTracked}
 use Rattle.leveldb_files.specs.Stores.Paths.{log_path, manifest_path, table_path}
-use Rattle.leveldb_version.specs.Sets.Recover.{IsRead, IsReusable, SyncsManifestAtMost, ReadManifest, next_number_after, set_going_on, set_starting_anew}
+use Rattle.leveldb_version_set.specs.Sets.Recover.{IsRead, IsReusable, SyncsManifestAtMost, ReadManifest, next_number_after, set_going_on, set_starting_anew}
 use Rattle.leveldb_files.specs.Stores.Store.{IsManagedBy, LogIsReplayed, ReplayedLog}
 use Rattle.leveldb_files.specs.Steps.StoreSteps.{AppendedAreBytes, KeepsHistory}
 use Rattle.leveldb_files.specs.Edits.Edit.{Edit, NewFile}
 use Rattle.leveldb_files.specs.Edits.VersionSet.{live_after}
-use Rattle.leveldb_version.specs.Sets.VersionSetValue.{OpenManifest, VersionSetValue, broken, in_use, new_version_set, unmade}
-use Rattle.leveldb_version.specs.Engines.Writing.{IsTrackedBy}
+use Rattle.leveldb_version_set.specs.Sets.VersionSetValue.{OpenManifest, VersionSetValue, broken, in_use, new_version_set, unmade}
+use Rattle.leveldb_version_set.specs.Engines.Writing.{IsTrackedBy}
 use Rattle.leveldb_store.proofs.Openings.OpeningFindLemmas.{listed, no_slash_in_log}
 use Rattle.leveldb_store.proofs.Openings.OpeningNumbersLemmas.{NumbersAre, bad_ends_end, some_of_number, log_replayed, numbers_are, replayed_log}
 use Rattle.leveldb_store.proofs.Openings.OpeningSameLemmas.{AreThere, HaveNumbers, SameText, SameText-refl, SameText-trans, logs_recovered, logs_same_text, managed_again, still_there, sync_same_text}

@@ -15,18 +15,18 @@ use Rattle.leveldb_env.specs.Env.{BeforeOrAfter, File, Files, FilesUnchanged, Ob
 use Rattle.leveldb_files.proofs.Steps.BytesLemmas.{bytes_stay}
 use Rattle.leveldb_files.proofs.Steps.KeepsLemmas.{sync_keeps}
 use Rattle.leveldb_files.proofs.Stores.ManagedLemmas.{SameBytes, managed_on}
-use Rattle.leveldb_version.proofs.Sets.RecoverLemmas.{some_and}
+use Rattle.leveldb_version_set.proofs.Sets.RecoverLemmas.{some_and}
 use Rattle.leveldb_files.proofs.Steps.StaysLemmas.{synced_same}
 use Rattle.leveldb_files.specs.Edits.Current.{IsCurrentText}
-use Rattle.leveldb_version.specs.Sets.Recover.{IsNamed}
+use Rattle.leveldb_version_set.specs.Sets.Recover.{IsNamed}
 use Rattle.leveldb_files.specs.Stores.Contents.{Contents, Store}
-use Rattle.leveldb_version.specs.Engines.Opening.{IsRecoveredBut}
+use Rattle.leveldb_version_set.specs.Engines.Opening.{IsRecoveredBut}
 use Rattle.leveldb_files.specs.Stores.Paths.{current_path, log_path, table_path}
 use Rattle.leveldb_files.specs.Stores.Store.{IsManagedBy}
 use Rattle.leveldb_files.specs.Steps.StoreSteps.{AppendedAreBytes, KeepsHistory}
 use Rattle.leveldb_files.specs.Edits.Edit.{Edit}
-use Rattle.leveldb_version.specs.Sets.VersionSetValue.{VersionSetValue}
-use Rattle.leveldb_version.proofs.Engines.RecoveringLemmas.{stores_are_recovered}
+use Rattle.leveldb_version_set.specs.Sets.VersionSetValue.{VersionSetValue}
+use Rattle.leveldb_version_set.proofs.Engines.RecoveringLemmas.{stores_are_recovered}
 use Rattle.leveldb_store.proofs.Openings.OpeningMadeLemmas.{apart_from_own}
 use Rattle.leveldb_store.proofs.Keeping.TableKeepsLemmas.{KeepsHistory-refl, KeepsHistory-trans}
 use Rattle.leveldb_store.specs.Openings.OpeningSteps.{AreBeingKept, with_log_kept, with_logs_kept}

@@ -17,8 +17,8 @@ use Rattle.leveldb_mem.specs.MemTable.{Kept}
 use Rattle.leveldb_files.proofs.Stores.ManifestLemmas.{managed_of}
 use Rattle.leveldb_files.proofs.Histories.NumbersLemmas.{up_to_greatest}
 use Rattle.leveldb_files.proofs.Stores.OneStoreLemmas.{one_table, tables_in}
-use Rattle.leveldb_version.proofs.Sets.RecoverLemmas.{cause_of_error}
-use Rattle.leveldb_version.proofs.Sets.UsableLemmas.{full_of_all}
+use Rattle.leveldb_version_set.proofs.Sets.RecoverLemmas.{cause_of_error}
+use Rattle.leveldb_version_set.proofs.Sets.UsableLemmas.{full_of_all}
 use Rattle.leveldb_files.proofs.Histories.ViewsLemmas.{same_sets, view_trans}
 use Rattle.leveldb_files.specs.Stores.Batches.{all_entries}
 use Rattle.leveldb_files.specs.Stores.Contents.{Contents}
@@ -27,12 +27,12 @@ use Rattle.leveldb_version.specs.Edits.FullEdit.{full_after}
 use Rattle.leveldb_files.specs.Histories.Holds.{MatchesHistory}
 use Rattle.leveldb_files.specs.Levels.Levels.{LevelOrder, LiveTable, table_entries}
 use Rattle.leveldb_files.specs.Stores.Paths.{current_path}
-use Rattle.leveldb_version.specs.Sets.Recover.{set_starting_anew}
+use Rattle.leveldb_version_set.specs.Sets.Recover.{set_starting_anew}
 use Rattle.leveldb_files.specs.Stores.Store.{HasEdits, HasTable, HasTables, IsManagedBy, IsStore, ReplayedLog as StoreLog, SameEntries, log_batches, log_entries}
 use Rattle.leveldb_files.specs.Edits.Edit.{Edit, NewFile, empty_edit}
 use Rattle.leveldb_files.specs.Edits.VersionSet.{ListsFiles, level_file, live_after}
-use Rattle.leveldb_version.specs.Sets.VersionSetValue.{VersionSetValue, broken, in_use, unmade}
-use Rattle.leveldb_version.specs.Engines.Writing.{ShowsHistory}
+use Rattle.leveldb_version_set.specs.Sets.VersionSetValue.{VersionSetValue, broken, in_use, unmade}
+use Rattle.leveldb_version_set.specs.Engines.Writing.{ShowsHistory}
 use Rattle.leveldb_store.specs.Keeping.OpenStore.{AreInLevels, AreNumbersGiven, HasOwnManifest, OpenStoreValue}
 use Rattle.leveldb_store.specs.Openings.OpeningSteps.{AreDamagedLogs, AreLogs, IsSetToRead, IsUnsupported, ReadsSet, WhyNotRecovered}
 use Rattle.leveldb_store.specs.Openings.OpensStore.{AreTablesThere, HasOtherComparator, IsDamaged}

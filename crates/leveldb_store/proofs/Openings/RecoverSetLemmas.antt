@@ -14,19 +14,19 @@ use Rattle.leveldb_env.specs.Env.{BeforeOrAfter, File, Files, FilesUnchanged, Ha
 use Rattle.leveldb_env.specs.WholeFiles.{IsFoundOr}
 use Rattle.leveldb_env.specs.declared.env.Env.{Ghosts}
 use Rattle.leveldb_files.proofs.Stores.ManagedLemmas.{found_again}
-use Rattle.leveldb_version.proofs.Sets.RecoverLemmas.{cause_of_error}
+use Rattle.leveldb_version_set.proofs.Sets.RecoverLemmas.{cause_of_error}
 use Rattle.leveldb_files.proofs.Steps.StaysLemmas.{synced_same}
-use Rattle.leveldb_version.proofs.Sets.UsableLemmas.{full_of_all}
+use Rattle.leveldb_version_set.proofs.Sets.UsableLemmas.{full_of_all}
 use Rattle.leveldb_files.specs.Edits.Current.{IsCurrentText}
 use Rattle.leveldb_version.specs.Edits.FullEdit.{full_after}
 use Rattle.leveldb_files.specs.Stores.Paths.{current_path}
-use Rattle.leveldb_version.specs.Sets.Recover.{HasRecordOfNoEdit, IsNamed, IsRead, IsReusable, SyncsManifestAtMost, RecoverResult, Recovers, WhyUnrecovered, lost, next_number_after, no_edit, set_going_on, set_starting_anew, too_long, unread, unusable, used_up}
+use Rattle.leveldb_version_set.specs.Sets.Recover.{HasRecordOfNoEdit, IsNamed, IsRead, IsReusable, SyncsManifestAtMost, RecoverResult, Recovers, WhyUnrecovered, lost, next_number_after, no_edit, set_going_on, set_starting_anew, too_long, unread, unusable, used_up}
 use Rattle.leveldb_files.specs.Stores.Store.{HasEdits}
 use Rattle.leveldb_files.specs.Edits.Edit.{Edit, NewFile, empty_edit}
 use Rattle.leveldb_files.specs.Edits.VersionSet.{ListsFiles, level_file, live_after}
-use Rattle.leveldb_version.specs.Sets.VersionSetValue.{AreFileNumbersUsedUp, VersionSetValue, broken, new_version_set, unmade}
+use Rattle.leveldb_version_set.specs.Sets.VersionSetValue.{AreFileNumbersUsedUp, VersionSetValue, broken, new_version_set, unmade}
 use Rattle.leveldb_files.specs.Stores.Format.{Format}
-use Rattle.leveldb_version.specs.Engines.Writing.{NumbersAreBelow}
+use Rattle.leveldb_version_set.specs.Engines.Writing.{NumbersAreBelow}
 use Rattle.leveldb_store.specs.Keeping.OpenStore.{AreNumbersGiven}
 use Rattle.leveldb_store.proofs.Keeping.GivenNumbersLemmas.{below_later}
 use Rattle.leveldb_store.proofs.Openings.FoundNumbersLemmas.{edits_after, few_after_name, few_after_next, names_after}

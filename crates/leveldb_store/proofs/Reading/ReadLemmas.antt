@@ -34,7 +34,7 @@ use Rattle.leveldb_files.specs.Edits.Edit.{NewFile}
 use Rattle.leveldb_version.specs.declared.table_cache.TableCache.{TableCache}
 use Rattle.leveldb_version.specs.declared.version.GetStats.{GetStats}
 use Rattle.leveldb_store.proofs.Keeping.LevelsApartLemmas.{permuted_apart}
-use Rattle.leveldb_version.specs.Sets.CurrentVersion.{IsCurrent}
+use Rattle.leveldb_version_set.specs.Sets.CurrentVersion.{IsCurrent}
 use Rattle.leveldb_store.specs.Keeping.OpenStore.{AreNumbersGiven, OpenStoreValue}
 use Rattle.leveldb_store.specs.Keeping.OpenTables.{AreOpenTablesOf}
 use Rattle.leveldb_store.specs.Reading.Read.{FindsInMemory, HasOpenTables, LooksUpKey, charge_of, in_memory, sought_key, value_searched, with_charge}

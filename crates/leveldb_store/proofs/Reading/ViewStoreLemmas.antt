@@ -29,7 +29,7 @@ use Rattle.leveldb_files.specs.Levels.Levels.{table_entries}
 use Rattle.leveldb_version.specs.Walks.VersionIter.{FailsOr}
 use Rattle.leveldb_version.specs.Walks.VersionIters.{OrdersInternalKeys}
 use Rattle.leveldb_version.specs.declared.table_cache.moves.ReadTables.{ReadTables}
-use Rattle.leveldb_version.specs.Sets.CurrentVersion.{IsCurrent}
+use Rattle.leveldb_version_set.specs.Sets.CurrentVersion.{IsCurrent}
 use Rattle.leveldb_store.specs.Keeping.OpenStore.{AreInLevels, AreNumbersGiven, OpenStoreValue}
 use Rattle.leveldb_store.specs.Reading.Read.{in_memory}
 use Rattle.leveldb_store.specs.Reading.View.{AreChildrenOf, FailsBetween, IsOfNoCompressor, ShowsIn, ViewsMerge, ViewsStore, any_in_order, options_in}

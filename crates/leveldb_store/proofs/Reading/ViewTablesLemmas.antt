@@ -30,7 +30,7 @@ use Rattle.leveldb_version.specs.Walks.VersionIters.{AreTablesToWalk, AreVersion
 use Rattle.leveldb_files.specs.Edits.VersionSet.{is_same_file, level_file}
 use Rattle.leveldb_version.specs.declared.table_cache.moves.ReadTables.{ReadTables}
 use Rattle.leveldb_version.specs.declared.version_iter.VersionIter.{VersionIter}
-use Rattle.leveldb_version.specs.Sets.CurrentVersion.{IsCurrent}
+use Rattle.leveldb_version_set.specs.Sets.CurrentVersion.{IsCurrent}
 use Rattle.leveldb_store.specs.Keeping.OpenStore.{AreInLevels, AreNumbersGiven, OpenStoreValue}
 use Rattle.leveldb_store.specs.Reading.View.{IsWorldOf, options_in}
 use Rattle.leveldb_store.specs.Keeping.Written.{HasLiveTables}

@@ -8,7 +8,7 @@ use Rattle.leveldb_env.proofs.EnvLemmas.{bytes_eq-apart}
 use Rattle.leveldb_env.specs.Env.{Files, in_folder}
 use Rattle.leveldb_files.proofs.Stores.ManagedLemmas.{same_name}
 use Rattle.leveldb_files.specs.Stores.Paths.{table_path}
-use Rattle.leveldb_version.specs.Engines.Writing.{NumbersAreBelow}
+use Rattle.leveldb_version_set.specs.Engines.Writing.{NumbersAreBelow}
 use Rattle.leveldb_store.specs.Tables.Outputs.{SameButNewTables}
 
 -- each file's number is below the next one of the set that gave the tables' numbers

@@ -17,22 +17,22 @@ use Rattle.leveldb_env.specs.Env.{File, Files, bytes_of, in_folder, with_file}
 use Rattle.leveldb_files.proofs.Edits.CurrentLemmas.{one_current}
 use Rattle.leveldb_files.proofs.Stores.ManagedLemmas.{SameFor, managed_on, same_bytes}
 use Rattle.leveldb_files.proofs.Steps.ObsoleteLemmas.{unread_again}
-use Rattle.leveldb_version.proofs.Sets.TrackedLemmas.{managed_still, next_is_free, unread_no_manifest, unread_unnamed}
-use Rattle.leveldb_version.proofs.Sets.TracksLemmas.{stays_tracked}
+use Rattle.leveldb_version_set.proofs.Sets.TrackedLemmas.{managed_still, next_is_free, unread_no_manifest, unread_unnamed}
+use Rattle.leveldb_version_set.proofs.Sets.TracksLemmas.{stays_tracked}
 use Rattle.leveldb_files.proofs.Steps.UnreadLemmas.{unread_stays_safe}
-use Rattle.leveldb_version.proofs.Engines.WrittenLemmas.{new_table_unread}
+use Rattle.leveldb_version_set.proofs.Engines.WrittenLemmas.{new_table_unread}
 use Rattle.leveldb_files.specs.Stores.Contents.{Contents, Store}
 use Rattle.leveldb_files.specs.Edits.Current.{IsCurrentText}
 use Rattle.leveldb_files.specs.Histories.Holds.{IsSafe}
 use Rattle.leveldb_files.specs.Stores.Paths.{current_path, log_path, table_path}
 use Rattle.leveldb_files.specs.Stores.Store.{HasEdits, IsStore}
 use Rattle.leveldb_files.specs.Steps.StoreSteps.{AppendedAreBytes, IsKept, IsUnnamed, IsUnread, IsWritable, KeepsHistory}
-use Rattle.leveldb_version.specs.Sets.Tracks.{IsLeftBy, Tracks}
+use Rattle.leveldb_version_set.specs.Sets.Tracks.{IsLeftBy, Tracks}
 use Rattle.leveldb_files.specs.Edits.Edit.{Edit}
 use Rattle.leveldb_files.specs.Edits.VersionSet.{live_after}
-use Rattle.leveldb_version.specs.Sets.VersionSetLaws.{NamesManifest}
-use Rattle.leveldb_version.specs.Sets.VersionSetValue.{VersionSetValue}
-use Rattle.leveldb_version.specs.Engines.Writing.{EngineMemory, IsTrackedBy, IsWrittenBy}
+use Rattle.leveldb_version_set.specs.Sets.VersionSetLaws.{NamesManifest}
+use Rattle.leveldb_version_set.specs.Sets.VersionSetValue.{VersionSetValue}
+use Rattle.leveldb_version_set.specs.Engines.Writing.{EngineMemory, IsTrackedBy, IsWrittenBy}
 use Rattle.leveldb_store.proofs.Tables.NewNumbersLemmas.{numbers_below_new}
 use Rattle.leveldb_store.specs.Tables.Outputs.{SameButNewTables}
 

@@ -13,13 +13,13 @@ use Rattle.leveldb_files.proofs.Stores.ManagedLemmas.{same_bytes, table_on}
 use Rattle.leveldb_files.specs.Stores.Batches.{Each}
 use Rattle.leveldb_files.specs.Stores.Format.{IsTableOf}
 use Rattle.leveldb_files.specs.Levels.Levels.{LiveTable}
-use Rattle.leveldb_version.specs.Sets.LogEdit.{AppendsEdit}
+use Rattle.leveldb_version_set.specs.Sets.LogEdit.{AppendsEdit}
 use Rattle.leveldb_files.specs.Stores.Paths.{table_path}
 use Rattle.leveldb_files.specs.Stores.Store.{HasTable, IsInternalPair}
 use Rattle.leveldb_files.specs.Edits.Edit.{NewFile}
 use Rattle.leveldb_version.specs.Edits.VersionEdit.{new_file_of}
-use Rattle.leveldb_version.specs.Sets.VersionSetValue.{OpenManifest, VersionSetValue, in_use, with_number_given}
-use Rattle.leveldb_version.specs.Engines.Writing.{table_edit}
+use Rattle.leveldb_version_set.specs.Sets.VersionSetValue.{OpenManifest, VersionSetValue, in_use, with_number_given}
+use Rattle.leveldb_version_set.specs.Engines.Writing.{table_edit}
 use Rattle.leveldb_store.proofs.Keeping.CurrentVersionLemmas.{lower_stay}
 use Rattle.leveldb_store.proofs.Keeping.TableKeepsLemmas.{appending_and_syncing, is_table_path, types_apart}
 use Rattle.leveldb_store.proofs.Writing.Level0TableLemmas.{has_made}

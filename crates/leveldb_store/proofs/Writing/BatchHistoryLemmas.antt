@@ -10,19 +10,19 @@ use Rattle.leveldb_mem.specs.Log.{frame_at, log_block_size, offset_after}
 use Rattle.leveldb_mem.specs.Log.Writer.{WriterState, after_frame, frame, new_writer}
 use Rattle.leveldb_mem.specs.MemTable.{IsUnion, Kept}
 use Rattle.leveldb_mem.specs.WriteBatch.{BatchOf}
-use Rattle.leveldb_version.proofs.Engines.BatchWrittenLemmas.{batch_is_written, synced_log_is_durable}
+use Rattle.leveldb_version_set.proofs.Engines.BatchWrittenLemmas.{batch_is_written, synced_log_is_durable}
 use Rattle.leveldb_files.proofs.Steps.BytesLemmas.{bytes_stay}
 use Rattle.leveldb_files.proofs.Steps.KeepsLemmas.{keeping_holds, sync_keeps}
-use Rattle.leveldb_version.proofs.Sets.LogKeepsLemmas.{framed_are_bytes}
+use Rattle.leveldb_version_set.proofs.Sets.LogKeepsLemmas.{framed_are_bytes}
 use Rattle.leveldb_files.proofs.Histories.NumbersLemmas.{placed_above, placed_length}
 use Rattle.leveldb_files.specs.Stores.Contents.{Store}
 use Rattle.leveldb_files.specs.Histories.Holds.{Carries, IsSafe}
-use Rattle.leveldb_version.specs.Sets.LogEdit.{AppendingAndSyncing}
+use Rattle.leveldb_version_set.specs.Sets.LogEdit.{AppendingAndSyncing}
 use Rattle.leveldb_files.specs.Stores.Paths.{table_path}
 use Rattle.leveldb_files.specs.Stores.Store.{IsStore}
 use Rattle.leveldb_files.specs.Steps.StoreSteps.{AppendedAreBytes}
-use Rattle.leveldb_version.specs.Engines.Writing.{IsWrittenBy}
-use Rattle.leveldb_version.specs.Engines.WritingLaws.{BatchIsWritten}
+use Rattle.leveldb_version_set.specs.Engines.Writing.{IsWrittenBy}
+use Rattle.leveldb_version_set.specs.Engines.WritingLaws.{BatchIsWritten}
 use Rattle.leveldb_store.proofs.Keeping.HistoryLemmas.{keeps_history}
 use Rattle.leveldb_store.proofs.Writing.BatchShownLemmas.{batch_is_shown}
 use Rattle.leveldb_store.proofs.Writing.SwitchLemmas.{shows_stay, tables_same, tables_stay, written_as}

@@ -10,7 +10,7 @@ use Rattle.leveldb_files.proofs.Histories.NumbersLemmas.{entries_more, greatest_
 use Rattle.leveldb_files.proofs.Histories.ViewsLemmas.{same_sets, view_trans}
 use Rattle.leveldb_files.specs.Levels.Levels.{LiveTable, table_entries}
 use Rattle.leveldb_files.specs.Stores.Store.{SameEntries}
-use Rattle.leveldb_version.specs.Engines.Writing.{EngineMemory, ShowsHistory}
+use Rattle.leveldb_version_set.specs.Engines.Writing.{EngineMemory, ShowsHistory}
 
 module _ (cmp : List ℕ → List ℕ → Ordering) (memory other : EngineMemory)
     (tables : List LiveTable) (history : History) (batch : List Entry) (since last : ℕ)

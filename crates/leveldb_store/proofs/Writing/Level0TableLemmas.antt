@@ -32,18 +32,18 @@ use Rattle.leveldb_files.specs.Stores.Batches.{Each}
 use Rattle.leveldb_files.specs.Stores.Contents.{Store}
 use Rattle.leveldb_version.specs.Edits.FullEdit.{files_after}
 use Rattle.leveldb_files.specs.Levels.Levels.{LiveTable}
-use Rattle.leveldb_version.specs.Sets.LogEdit.{AppendsEdit, edit_record, with_bytes_kept}
-use Rattle.leveldb_version.specs.Engines.Opening.{FitsEdit}
+use Rattle.leveldb_version_set.specs.Sets.LogEdit.{AppendsEdit, edit_record, with_bytes_kept}
+use Rattle.leveldb_version_set.specs.Engines.Opening.{FitsEdit}
 use Rattle.leveldb_files.specs.Levels.Overlap.{file_range, output_level}
 use Rattle.leveldb_files.specs.Stores.Paths.{IsFilePath, table_path}
 use Rattle.leveldb_files.specs.Stores.Store.{HasTable, IsInternalPair}
 use Rattle.leveldb_files.specs.Steps.StoreSteps.{AppendedAreBytes, IsKept, KeepsHistory}
 use Rattle.leveldb_files.specs.Edits.Edit.{Edit, LevelsFit, NewFile, empty_edit}
 use Rattle.leveldb_version.specs.Edits.VersionEdit.{edit_of, new_file_of}
-use Rattle.leveldb_version.specs.Sets.VersionSetValue.{AreFileNumbersUsedUp, ManifestState, OpenManifest, VersionSetValue, broken, in_use, unmade, with_number_given}
+use Rattle.leveldb_version_set.specs.Sets.VersionSetValue.{AreFileNumbersUsedUp, ManifestState, OpenManifest, VersionSetValue, broken, in_use, unmade, with_number_given}
 use Rattle.leveldb_version.specs.Versions.Change.{IsVersionAfter}
 use Rattle.leveldb_version.specs.Versions.Version.{VersionValue}
-use Rattle.leveldb_version.specs.Engines.Writing.{IsWrittenBy, table_edit}
+use Rattle.leveldb_version_set.specs.Engines.Writing.{IsWrittenBy, table_edit}
 use Rattle.leveldb_version.specs.declared.version_edit.VersionEdit.{VersionEdit}
 use Rattle.leveldb_store.proofs.Keeping.CurrentVersionLemmas.{lower_stay}
 use Rattle.leveldb_store.proofs.Keeping.GivenNumbersLemmas.{given_after, live_given}

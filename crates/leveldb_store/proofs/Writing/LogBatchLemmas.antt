@@ -7,7 +7,7 @@ use Rattle.leveldb_env.proofs.EnvLemmas.{Run-call, Run-mono, appended, at_same, 
 use Rattle.leveldb_env.specs.Env.{BeforeOrAfter, File, Files, HasCause, PrefixAppended, Run, extended, longer_file, synced}
 use Rattle.leveldb_env.specs.declared.env.Env.{Ghosts}
 use Rattle.leveldb_mem.specs.Log.Writer.{after_frame, broken_writer, frame}
-use Rattle.leveldb_version.specs.Sets.LogEdit.{AppendingAndSyncing}
+use Rattle.leveldb_version_set.specs.Sets.LogEdit.{AppendingAndSyncing}
 use Rattle.leveldb_store.specs.Keeping.OpenStore.{OpenStoreValue}
 use Rattle.leveldb_store.specs.Writing.Write.{AppendsToLog, IsLogLost, LogsText, SyncsLog, open_log_path, with_writer}
 

@@ -15,8 +15,8 @@ use Rattle.leveldb_env.specs.declared.env.Env.{Ghosts}
 use Rattle.leveldb_env.specs.declared.filter.FilterPolicy.{Ghosts as FilterGhosts}
 use Rattle.leveldb_mem.specs.MemTable.{Kept}
 use Rattle.leveldb_files.specs.Steps.StoreSteps.{KeepsHistory}
-use Rattle.leveldb_version.specs.Sets.VersionSetValue.{AreFileNumbersUsedUp, OpenManifest, VersionSetValue, in_use}
-use Rattle.leveldb_version.specs.Engines.Writing.{IsObsolete}
+use Rattle.leveldb_version_set.specs.Sets.VersionSetValue.{AreFileNumbersUsedUp, OpenManifest, VersionSetValue, in_use}
+use Rattle.leveldb_version_set.specs.Engines.Writing.{IsObsolete}
 use Rattle.leveldb_store.proofs.Keeping.GivenTablesLemmas.{given_removed, given_same, given_then}
 use Rattle.leveldb_store.proofs.Keeping.SoundLemmas.{failed_later, failed_once, goes_on_then, never_broken, nothing_goes_on, sound_ok, written_log, written_manifest}
 use Rattle.leveldb_store.proofs.Keeping.TableKeepsLemmas.{KeepsHistory-trans}

@@ -22,21 +22,21 @@ use Rattle.leveldb_env.specs.declared.env.Env.{Ghosts}
 use Rattle.leveldb_mem.specs.Log.{log_block_size}
 use Rattle.leveldb_mem.specs.Log.Writer.{IsWriterBroken, WriterState, broken_writer, new_writer}
 use Rattle.leveldb_files.proofs.Steps.KeepsLemmas.{sync_keeps}
-use Rattle.leveldb_version.proofs.Sets.LogKeepsLemmas.{keeps_then}
+use Rattle.leveldb_version_set.proofs.Sets.LogKeepsLemmas.{keeps_then}
 use Rattle.leveldb_files.proofs.Histories.SafeLemmas.{some_is}
-use Rattle.leveldb_version.proofs.Engines.ShownLemmas.{same_memory_shows}
-use Rattle.leveldb_version.proofs.Engines.SwitchLogLemmas.{new_log_written}
-use Rattle.leveldb_version.proofs.Engines.WrittenLemmas.{written_given, written_synced}
-use Rattle.leveldb_version.specs.Sets.CurrentVersion.{VersionsValue}
+use Rattle.leveldb_version_set.proofs.Engines.ShownLemmas.{same_memory_shows}
+use Rattle.leveldb_version_set.proofs.Engines.SwitchLogLemmas.{new_log_written}
+use Rattle.leveldb_version_set.proofs.Engines.WrittenLemmas.{written_given, written_synced}
+use Rattle.leveldb_version_set.specs.Sets.CurrentVersion.{VersionsValue}
 use Rattle.leveldb_files.specs.Stores.Contents.{Store}
 use Rattle.leveldb_files.specs.Levels.Levels.{LiveTable, table_entries}
 use Rattle.leveldb_files.specs.Stores.Paths.{log_path, table_path}
 use Rattle.leveldb_files.specs.Stores.Store.{HasTable, SameEntries}
 use Rattle.leveldb_files.specs.Steps.StoreSteps.{IsKept, KeepsHistory}
 use Rattle.leveldb_files.specs.Edits.Edit.{Edit, NewFile}
-use Rattle.leveldb_version.specs.Sets.VersionSetValue.{AreFileNumbersUsedUp, VersionSetValue, with_number_given}
-use Rattle.leveldb_version.specs.Engines.Writing.{EngineMemory, IsWrittenBy, ShowsHistory, switched_memory}
-use Rattle.leveldb_version.specs.Engines.WritingLaws.{NewLogIsWritten}
+use Rattle.leveldb_version_set.specs.Sets.VersionSetValue.{AreFileNumbersUsedUp, VersionSetValue, with_number_given}
+use Rattle.leveldb_version_set.specs.Engines.Writing.{EngineMemory, IsWrittenBy, ShowsHistory, switched_memory}
+use Rattle.leveldb_version_set.specs.Engines.WritingLaws.{NewLogIsWritten}
 use Rattle.leveldb_files.specs.Stores.Format.{IsTableOf, Meaning}
 use Rattle.leveldb_store.specs.Keeping.OpenStore.{OpenLogValue, OpenStoreValue}
 use Rattle.leveldb_store.proofs.Keeping.GivenTablesLemmas.{given_same}

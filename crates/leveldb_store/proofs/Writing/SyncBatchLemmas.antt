@@ -10,9 +10,9 @@ use Rattle.leveldb_env.specs.Env.{BeforeOrAfter, ChangesFiles, File, Files, Obse
 use Rattle.leveldb_env.specs.declared.env.Env.{Ghosts}
 use Rattle.leveldb_mem.specs.Log.{log_block_size}
 use Rattle.leveldb_mem.specs.Log.Writer.{broken_writer, new_writer}
-use Rattle.leveldb_version.proofs.Engines.BatchWrittenLemmas.{synced_log_is_durable}
+use Rattle.leveldb_version_set.proofs.Engines.BatchWrittenLemmas.{synced_log_is_durable}
 use Rattle.leveldb_files.proofs.Steps.KeepsLemmas.{sync_keeps}
-use Rattle.leveldb_version.proofs.Engines.WrittenLemmas.{written_synced}
+use Rattle.leveldb_version_set.proofs.Engines.WrittenLemmas.{written_synced}
 use Rattle.leveldb_files.specs.Stores.Contents.{Store}
 use Rattle.leveldb_files.specs.Stores.Paths.{log_path, table_path}
 use Rattle.leveldb_files.specs.Steps.StoreSteps.{KeepsHistory}

@@ -13,15 +13,15 @@ use Rattle.leveldb_files.proofs.Stores.ManagedLemmas.{same_bytes, table_on}
 use Rattle.leveldb_files.specs.Stores.Batches.{Each}
 use Rattle.leveldb_files.specs.Stores.Format.{Agrees, IsTableOf, Meaning}
 use Rattle.leveldb_files.specs.Levels.Levels.{LiveTable}
-use Rattle.leveldb_version.specs.Sets.LogEdit.{AppendsEdit}
+use Rattle.leveldb_version_set.specs.Sets.LogEdit.{AppendsEdit}
 use Rattle.leveldb_files.specs.Stores.Paths.{table_path}
 use Rattle.leveldb_files.specs.Stores.Store.{HasTable, IsInternalPair}
 use Rattle.leveldb_version.specs.Tables.TableCache.{files_at}
 use Rattle.leveldb_version.specs.Versions.Version.{VersionValue}
 use Rattle.leveldb_files.specs.Edits.Edit.{NewFile}
 use Rattle.leveldb_version.specs.Edits.VersionEdit.{new_file_of}
-use Rattle.leveldb_version.specs.Sets.VersionSetValue.{OpenManifest, VersionSetValue, broken, in_use, with_number_given}
-use Rattle.leveldb_version.specs.Engines.Writing.{table_edit}
+use Rattle.leveldb_version_set.specs.Sets.VersionSetValue.{OpenManifest, VersionSetValue, broken, in_use, with_number_given}
+use Rattle.leveldb_version_set.specs.Engines.Writing.{table_edit}
 use Rattle.leveldb_store.proofs.Keeping.CurrentVersionLemmas.{lower_stay}
 use Rattle.leveldb_store.proofs.Keeping.NoNewEntriesLemmas.{adds_none_tables_made}
 use Rattle.leveldb_store.proofs.Keeping.TableKeepsLemmas.{appending_and_syncing, is_table_path, types_apart}

@@ -16,23 +16,23 @@ use Rattle.leveldb_env.specs.Env.{AreBytes}
 use Rattle.leveldb_env.specs.declared.env.Env.{Ghosts}
 use Rattle.leveldb_env.specs.declared.filter.FilterPolicy.{Ghosts as FilterGhosts}
 use Rattle.leveldb_version.specs.Versions.Change.{IsVersionAfter}
-use Rattle.leveldb_version.specs.Compactions.Compaction.{IsWithinInputs, MayCompact, MayMove, MergesOrMoves, files_of_tables}
-use Rattle.leveldb_version.specs.Compactions.CompactionEdit.{HasMadeOutputs, IsCompactionBy, SetsPointer}
-use Rattle.leveldb_version.specs.Sets.CurrentVersion.{IsCurrent}
+use Rattle.leveldb_version_set.specs.Compactions.Compaction.{IsWithinInputs, MayCompact, MayMove, MergesOrMoves, files_of_tables}
+use Rattle.leveldb_version_set.specs.Compactions.CompactionEdit.{HasMadeOutputs, IsCompactionBy, SetsPointer}
+use Rattle.leveldb_version_set.specs.Sets.CurrentVersion.{IsCurrent}
 use Rattle.leveldb_files.specs.Stores.Format.{Agrees, IsTableFault, IsTableOf, LacksCompressor, Meaning}
 use Rattle.leveldb_files.specs.Levels.Levels.{AreDisjoint, LiveTable, table_entries}
-use Rattle.leveldb_version.specs.Sets.LogEdit.{set_appended}
-use Rattle.leveldb_version.specs.Engines.Opening.{FitsEdit}
+use Rattle.leveldb_version_set.specs.Sets.LogEdit.{set_appended}
+use Rattle.leveldb_version_set.specs.Engines.Opening.{FitsEdit}
 use Rattle.leveldb_files.specs.Levels.Overlap.{UserRange, is_overlapped}
 use Rattle.leveldb_files.specs.Stores.Paths.{table_path}
-use Rattle.leveldb_version.specs.Compactions.Picking.{CompactionValue, IsAskedFor}
+use Rattle.leveldb_version_set.specs.Compactions.Picking.{CompactionValue, IsAskedFor}
 use Rattle.leveldb_files.specs.Levels.Summary.{files_of_level}
 use Rattle.leveldb_version.specs.Tables.TableCache.{TableOptions, files_at}
 use Rattle.leveldb_version.specs.Versions.Version.{new_files_of}
 use Rattle.leveldb_files.specs.Edits.Edit.{Edit, LevelFile, NewFile}
 use Rattle.leveldb_version.specs.Edits.VersionEdit.{new_file_of}
 use Rattle.leveldb_files.specs.Edits.VersionSet.{level_file}
-use Rattle.leveldb_version.specs.Sets.VersionSetValue.{AreFileNumbersUsedUp, OpenManifest, VersionSetValue, broken, in_use}
+use Rattle.leveldb_version_set.specs.Sets.VersionSetValue.{AreFileNumbersUsedUp, OpenManifest, VersionSetValue, broken, in_use}
 use Rattle.leveldb_version.specs.declared.table_cache.TableCache.{TableCache}
 use Rattle.leveldb_store.specs.Tables.BuildTable.{IsNotBuilt, TableChoices}
 use Rattle.leveldb_store.specs.Keeping.KeptBytes.{NewTablesLoseNothing}

@@ -18,7 +18,7 @@ use Rattle.leveldb_env.specs.declared.env.Env.{Ghosts as EnvGhosts}
 use Rattle.leveldb_env.specs.declared.filter.FilterPolicy.{Ghosts as FilterGhosts}
 use Rattle.leveldb_iter.specs.Walk.{KeyOrder, key_order}
 use Rattle.leveldb_iter.specs.declared.walk.Walk.{Ghosts as WalkGhosts}
-use Rattle.leveldb_version.specs.Sets.VersionSetValue.{AreFileNumbersUsedUp}
+use Rattle.leveldb_version_set.specs.Sets.VersionSetValue.{AreFileNumbersUsedUp}
 use Rattle.leveldb_store.specs.Tables.BuildTable.{AreSomeNotBuilt, TableChoices}
 use Rattle.leveldb_store.specs.Tables.Outputs.{AreTables, ChangesNewTables, HaveOutputs, OutputsValue}
 use Rattle.leveldb_store.specs.Compactions.Passing.{IsJustBefore}

@@ -4,8 +4,8 @@ use Rattle.leveldb_base.specs.declared.types.FileType.TheVariants.{Temp}
 use Rattle.leveldb_env.specs.Env.{File, Files, Run, bytes_of}
 use Rattle.leveldb_env.specs.declared.env.Env.{Ghosts}
 use Rattle.leveldb_files.specs.Stores.Paths.{IsFilePath, current_path, manifest_path, table_path}
-use Rattle.leveldb_version.specs.Sets.VersionSetValue.{VersionSetValue, unmade}
-use Rattle.leveldb_version.specs.Engines.Writing.{NumbersAreBelow}
+use Rattle.leveldb_version_set.specs.Sets.VersionSetValue.{VersionSetValue, unmade}
+use Rattle.leveldb_version_set.specs.Engines.Writing.{NumbersAreBelow}
 
 -- ---- bytes
 

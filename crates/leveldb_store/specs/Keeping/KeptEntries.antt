@@ -5,15 +5,15 @@ use Rattle.std.specs.declared.cmp.Ordering.{Ordering}
 use Rattle.leveldb_base.specs.History.{Entry}
 use Rattle.leveldb_env.specs.Env.{Observed}
 use Rattle.leveldb_env.specs.declared.env.Env.{Ghosts}
-use Rattle.leveldb_version.specs.Compactions.Compaction.{files_of_tables}
+use Rattle.leveldb_version_set.specs.Compactions.Compaction.{files_of_tables}
 use Rattle.leveldb_files.specs.Stores.Format.{Agrees, Format, IsTableOf, Meaning}
 use Rattle.leveldb_files.specs.Levels.Levels.{LiveTable, table_entries}
 use Rattle.leveldb_files.specs.Stores.Paths.{table_path}
-use Rattle.leveldb_version.specs.Compactions.Picking.{CompactionValue}
+use Rattle.leveldb_version_set.specs.Compactions.Picking.{CompactionValue}
 use Rattle.leveldb_files.specs.Stores.Store.{HasTable, SameEntries}
 use Rattle.leveldb_version.specs.Versions.Version.{new_files_of}
 use Rattle.leveldb_files.specs.Edits.Edit.{NewFile}
-use Rattle.leveldb_version.specs.Sets.VersionSetValue.{VersionSetValue}
+use Rattle.leveldb_version_set.specs.Sets.VersionSetValue.{VersionSetValue}
 use Rattle.leveldb_store.specs.Compactions.Compact.{GivesNumbersOrBreaks, LogsCompaction}
 use Rattle.leveldb_store.specs.Keeping.OpenStore.{OpenStoreValue}
 use Rattle.leveldb_store.specs.Reading.Read.{in_memory}

@@ -2,12 +2,12 @@
 use Rattle.std.specs.Prelude.{◌≡◌, ◌≢◌, ◌≤◌, ℕ, List, [], ◌∷◌, Option, Some, All, Contains, IsSomeAnd, length}
 use Rattle.std.specs.List.{cons_option}
 use Rattle.std.specs.declared.cmp.Ordering.{Ordering}
-use Rattle.leveldb_version.specs.Compactions.Inputs.{AreOrdered}
-use Rattle.leveldb_version.specs.Sets.LogEdit.{set_appended}
-use Rattle.leveldb_version.specs.Compactions.Scores.{level_by_score}
+use Rattle.leveldb_version_set.specs.Compactions.Inputs.{AreOrdered}
+use Rattle.leveldb_version_set.specs.Sets.LogEdit.{set_appended}
+use Rattle.leveldb_version.specs.Versions.Scores.{level_by_score}
 use Rattle.leveldb_files.specs.Edits.Edit.{Edit, LevelFile, NewFile}
-use Rattle.leveldb_version.specs.Sets.VersionSetValue.{OpenManifest, VersionSetValue, in_use}
-use Rattle.leveldb_version.specs.Engines.Writing.{table_edit}
+use Rattle.leveldb_version_set.specs.Sets.VersionSetValue.{OpenManifest, VersionSetValue, in_use}
+use Rattle.leveldb_version_set.specs.Engines.Writing.{table_edit}
 use Rattle.leveldb_store.specs.Openings.Opening.{GivesNumbers}
 
 -- numbers of files were given and these edits logged, one after another, and nothing else

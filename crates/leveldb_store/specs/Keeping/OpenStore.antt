@@ -10,7 +10,7 @@ use Rattle.leveldb_version.specs.Versions.Search.{AreDisjointLevels}
 use Rattle.leveldb_version.specs.Versions.Version.{AreInVersionOrder, VersionValue, new_files_of}
 use Rattle.leveldb_files.specs.Edits.Edit.{NewFile}
 use Rattle.leveldb_files.specs.Edits.VersionSet.{is_same_file, level_file}
-use Rattle.leveldb_version.specs.Sets.VersionSetValue.{OpenManifest, VersionSetValue, broken, in_use}
+use Rattle.leveldb_version_set.specs.Sets.VersionSetValue.{OpenManifest, VersionSetValue, broken, in_use}
 
 -- a log that batches are appended to
 pub record OpenLogValue : Type 0 where

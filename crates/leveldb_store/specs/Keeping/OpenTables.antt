@@ -7,7 +7,7 @@ use Rattle.leveldb_env.specs.declared.env.Env.{Ghosts}
 use Rattle.leveldb_files.specs.Stores.Paths.{table_path}
 use Rattle.leveldb_version.specs.Tables.TableCache.{ClosesTables, MatchesFiles, TableOptions, files_at, store_of, table_at}
 use Rattle.leveldb_files.specs.Edits.Edit.{NewFile}
-use Rattle.leveldb_version.specs.Sets.VersionSetValue.{VersionSetValue}
+use Rattle.leveldb_version_set.specs.Sets.VersionSetValue.{VersionSetValue}
 use Rattle.leveldb_version.specs.declared.table_cache.TableCache.{TableCache}
 
 module _ {E C FP F : Type 0} (order : CmpGhosts (InternalKeyCmp C)) (env : Ghosts E F) where

@@ -16,8 +16,8 @@ use Rattle.leveldb_files.specs.Stores.Store.{HasTable}
 use Rattle.leveldb_files.specs.Steps.StoreSteps.{KeepsHistory}
 use Rattle.leveldb_version.specs.Tables.TableCache.{IsSameOrGone}
 use Rattle.leveldb_files.specs.Edits.Edit.{Edit, NewFile}
-use Rattle.leveldb_version.specs.Sets.VersionSetValue.{VersionSetValue}
-use Rattle.leveldb_version.specs.Engines.Writing.{EngineMemory, IsWrittenBy, ShowsHistory}
+use Rattle.leveldb_version_set.specs.Sets.VersionSetValue.{VersionSetValue}
+use Rattle.leveldb_version_set.specs.Engines.Writing.{EngineMemory, IsWrittenBy, ShowsHistory}
 use Rattle.leveldb_store.specs.Keeping.OpenStore.{IsUnbroken, OpenStoreValue}
 
 -- ---- memory

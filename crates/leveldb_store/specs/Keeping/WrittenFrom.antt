@@ -7,7 +7,7 @@ use Rattle.leveldb_env.specs.Env.{Files, Observed, Run}
 use Rattle.leveldb_files.specs.Stores.Contents.{Store}
 use Rattle.leveldb_files.specs.Stores.Format.{IsTableOf, Meaning}
 use Rattle.leveldb_files.specs.Levels.Levels.{LiveTable, table_entries}
-use Rattle.leveldb_version.specs.Compactions.ShownFrom.{KeepsFrom}
+use Rattle.leveldb_version_set.specs.Compactions.ShownFrom.{KeepsFrom}
 use Rattle.leveldb_files.specs.Steps.StoreSteps.{KeepsHistory}
 use Rattle.leveldb_store.specs.Keeping.OpenStore.{IsUnbroken, OpenStoreValue}
 use Rattle.leveldb_store.specs.Reading.Read.{in_memory}

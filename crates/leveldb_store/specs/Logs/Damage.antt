@@ -6,8 +6,8 @@ use Rattle.leveldb_base.specs.declared.types.FileType.{FileType}
 use Rattle.leveldb_base.specs.declared.types.FileType.TheVariants.{Descriptor, Log}
 use Rattle.leveldb_env.specs.Env.{Files, bytes_of, in_folder}
 use Rattle.leveldb_mem.specs.Log.{AreFragments, Fragment, IsFragment, IsLogFile, begun_of, clean, filler, log_block_size, offset_after, record_type}
-use Rattle.leveldb_version.specs.Sets.VersionSetValue.{VersionSetValue}
-use Rattle.leveldb_version.specs.Engines.Writing.{IsObsolete}
+use Rattle.leveldb_version_set.specs.Sets.VersionSetValue.{VersionSetValue}
+use Rattle.leveldb_version_set.specs.Engines.Writing.{IsObsolete}
 
 -- ---- records that are lost
 

@@ -11,7 +11,7 @@ use Rattle.leveldb_env.specs.declared.env.Env.{Ghosts}
 use Rattle.leveldb_mem.specs.Log.{bad, clean}
 use Rattle.leveldb_mem.specs.WriteBatch.{Batch}
 use Rattle.leveldb_files.specs.Stores.Batches.{batch_entries}
-use Rattle.leveldb_version.specs.Repairs.Found.{IsFoundLog, IsNumberedBatch}
+use Rattle.leveldb_version_set.specs.Repairs.Found.{IsFoundLog, IsNumberedBatch}
 use Rattle.leveldb_store.specs.Logs.FoundLogs.{BeginsWithBatches}
 use Rattle.leveldb_store.specs.Logs.LogReplay.{HasReadBatches, IsReadOutAs, LogReplayState}
 use Rattle.leveldb_store.specs.declared.log_replay.next_found.NextFound.{NextFound}

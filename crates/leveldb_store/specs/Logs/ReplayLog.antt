@@ -21,7 +21,7 @@ use Rattle.leveldb_files.specs.Stores.Paths.{log_path}
 use Rattle.leveldb_files.specs.Stores.Store.{HasLog, ReplayedLog as StoreLog, SameEntries}
 use Rattle.leveldb_files.specs.Edits.Edit.{NewFile}
 use Rattle.leveldb_version.specs.Edits.VersionEdit.{new_file_of}
-use Rattle.leveldb_version.specs.Sets.VersionSetValue.{AreFileNumbersUsedUp, VersionSetValue, with_number_given}
+use Rattle.leveldb_version_set.specs.Sets.VersionSetValue.{AreFileNumbersUsedUp, VersionSetValue, with_number_given}
 use Rattle.leveldb_store.specs.Tables.BuildTable.{IsNotBuilt, TableChoices}
 use Rattle.leveldb_files.specs.Stores.Format.{Agrees, Format, Meaning}
 use Rattle.leveldb_store.specs.Logs.FoundLogs.{AreLastEntries, FailsToTable, LogBeginsWith}

@@ -7,13 +7,13 @@ use Rattle.leveldb_mem.specs.Log.{bad, clean}
 use Rattle.leveldb_files.specs.Stores.Batches.{AreInOrder, all_entries}
 use Rattle.leveldb_files.specs.Stores.Contents.{Store}
 use Rattle.leveldb_files.specs.Levels.Levels.{LiveTable, table_entries}
-use Rattle.leveldb_version.specs.Engines.Opening.{FitsEdit, IsMadeBefore}
+use Rattle.leveldb_version_set.specs.Engines.Opening.{FitsEdit, IsMadeBefore}
 use Rattle.leveldb_files.specs.Stores.Paths.{table_path}
 use Rattle.leveldb_files.specs.Stores.Store.{HasLog, HasTable, ReplayedLog, SameEntries}
 use Rattle.leveldb_files.specs.Steps.StoreSteps.{IsKept, KeepsHistory}
 use Rattle.leveldb_files.specs.Edits.Edit.{Edit, NewFile}
-use Rattle.leveldb_version.specs.Sets.VersionSetValue.{VersionSetValue}
-use Rattle.leveldb_version.specs.Engines.Writing.{IsRecoveredBy}
+use Rattle.leveldb_version_set.specs.Sets.VersionSetValue.{VersionSetValue}
+use Rattle.leveldb_version_set.specs.Engines.Writing.{IsRecoveredBy}
 use Rattle.leveldb_files.specs.Stores.Format.{IsTableOf, Meaning}
 
 -- ---- one log

@@ -11,8 +11,8 @@ use Rattle.leveldb_files.specs.Stores.Paths.{log_path}
 use Rattle.leveldb_files.specs.Stores.Store.{IsManagedBy, LogIsReplayed}
 use Rattle.leveldb_files.specs.Edits.Edit.{Edit}
 use Rattle.leveldb_files.specs.Edits.VersionSet.{live_after}
-use Rattle.leveldb_version.specs.Sets.VersionSetValue.{VersionSetValue}
-use Rattle.leveldb_version.specs.Engines.Writing.{IsRecoveredBy}
+use Rattle.leveldb_version_set.specs.Sets.VersionSetValue.{VersionSetValue}
+use Rattle.leveldb_version_set.specs.Engines.Writing.{IsRecoveredBy}
 use Rattle.leveldb_files.specs.Stores.Format.{IsTableOf, Meaning}
 
 -- the contents with this comparator's name: of a store that is there, or of a new one in place of

@@ -22,18 +22,18 @@ use Rattle.leveldb_mem.specs.MemTable.{MemTableState}
 use Rattle.leveldb_mem.specs.WriteBatch.{Batch}
 use Rattle.leveldb_files.specs.Stores.Batches.{AreInOrder, all_entries}
 use Rattle.leveldb_files.specs.Levels.Levels.{LiveTable, table_entries}
-use Rattle.leveldb_version.specs.Sets.LogEdit.{LogEditResult}
-use Rattle.leveldb_version.specs.Sets.NewManifest.{MakingManifest, with_manifest}
-use Rattle.leveldb_version.specs.Sets.NewStore.{first_edit, first_manifest}
+use Rattle.leveldb_version_set.specs.Sets.LogEdit.{LogEditResult}
+use Rattle.leveldb_version_set.specs.Sets.NewManifest.{MakingManifest, with_manifest}
+use Rattle.leveldb_version_set.specs.Sets.NewStore.{first_edit, first_manifest}
 use Rattle.leveldb_files.specs.Stores.Contents.{Contents}
-use Rattle.leveldb_version.specs.Engines.Opening.{tables_edit}
+use Rattle.leveldb_version_set.specs.Engines.Opening.{tables_edit}
 use Rattle.leveldb_files.specs.Stores.Paths.{current_path, log_path, table_path}
-use Rattle.leveldb_version.specs.Sets.Recover.{SyncsManifestAtMost, Recovers}
+use Rattle.leveldb_version_set.specs.Sets.Recover.{SyncsManifestAtMost, Recovers}
 use Rattle.leveldb_files.specs.Stores.Store.{HasLog, HasNoStore, ReplayedLog as StoreLog, SameEntries, log_batches, log_entries}
 use Rattle.leveldb_files.specs.Edits.Edit.{IsEncodable, NewFile}
 use Rattle.leveldb_version.specs.Edits.VersionEdit.{new_file_of}
-use Rattle.leveldb_version.specs.Sets.VersionSetValue.{AreFileNumbersUsedUp, OpenManifest, VersionSetValue, broken, in_use, new_version_set, unmade, with_number_given}
-use Rattle.leveldb_version.specs.Engines.Writing.{NumbersAreBelow}
+use Rattle.leveldb_version_set.specs.Sets.VersionSetValue.{AreFileNumbersUsedUp, OpenManifest, VersionSetValue, broken, in_use, new_version_set, unmade, with_number_given}
+use Rattle.leveldb_version_set.specs.Engines.Writing.{NumbersAreBelow}
 use Rattle.leveldb_store.specs.Tables.BuildTable.{TableChoices}
 use Rattle.leveldb_files.specs.Stores.Format.{Agrees, Format, Meaning}
 use Rattle.leveldb_store.specs.Openings.Listing.{AreNamesIn}

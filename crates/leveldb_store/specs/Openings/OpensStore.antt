@@ -17,14 +17,14 @@ use Rattle.leveldb_env.specs.declared.filter.FilterPolicy.{Ghosts as FilterGhost
 use Rattle.leveldb_mem.specs.WriteBatch.{Batch}
 use Rattle.leveldb_files.specs.Stores.Contents.{Contents, Store, made}
 use Rattle.leveldb_files.specs.Histories.Holds.{Holds, IsSafe, MatchesHistory}
-use Rattle.leveldb_version.specs.Sets.NewStore.{first_manifest}
+use Rattle.leveldb_version_set.specs.Sets.NewStore.{first_manifest}
 use Rattle.leveldb_files.specs.Stores.Paths.{current_path, table_path}
-use Rattle.leveldb_version.specs.Sets.Recover.{AreBeside, IsNamed, IsUsable, ShareUserKey}
+use Rattle.leveldb_version_set.specs.Sets.Recover.{AreBeside, IsNamed, IsUsable, ShareUserKey}
 use Rattle.leveldb_files.specs.Stores.Store.{HasEdits, IsStore}
 use Rattle.leveldb_files.specs.Steps.StoreSteps.{AppendedAreBytes, KeepsHistory}
 use Rattle.leveldb_files.specs.Edits.Edit.{Edit, NewFile}
 use Rattle.leveldb_files.specs.Edits.VersionSet.{FileSet, live_after}
-use Rattle.leveldb_version.specs.Sets.VersionSetValue.{OpenManifest, VersionSetValue, in_use}
+use Rattle.leveldb_version_set.specs.Sets.VersionSetValue.{OpenManifest, VersionSetValue, in_use}
 use Rattle.leveldb_store.specs.Tables.BuildTable.{TableChoices}
 use Rattle.leveldb_store.specs.Logs.FoundLogs.{HasLogNotKept, LogsBeginWith}
 use Rattle.leveldb_files.specs.Stores.Format.{Agrees, Format, IsTableOf, Meaning}

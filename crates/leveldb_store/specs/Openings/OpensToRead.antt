@@ -14,7 +14,7 @@ use Rattle.leveldb_files.specs.Stores.Format.{Agrees, Format, IsTableOf, Meaning
 use Rattle.leveldb_files.specs.Histories.Holds.{MatchesHistory}
 use Rattle.leveldb_files.specs.Stores.Paths.{current_path}
 use Rattle.leveldb_files.specs.Stores.Store.{IsStore}
-use Rattle.leveldb_version.specs.Sets.VersionSetValue.{broken}
+use Rattle.leveldb_version_set.specs.Sets.VersionSetValue.{broken}
 use Rattle.leveldb_store.specs.Logs.FoundLogs.{AreLogsTooLarge}
 use Rattle.leveldb_store.specs.Keeping.OpenStore.{OpenStoreValue}
 use Rattle.leveldb_store.specs.Openings.OpeningSteps.{IsUnsupported}

@@ -22,7 +22,7 @@ use Rattle.leveldb_table.specs.TableBuilder.{TableBuilt, IsBegun, IsBuiltTable, 
 use Rattle.leveldb_table.specs.TableBuilderAdd.{IsAddError}
 use Rattle.leveldb_table.specs.TableBuilderFinish.{IsFinishError}
 use Rattle.leveldb_files.specs.Stores.Batches.{Each}
-use Rattle.leveldb_version.specs.Engines.Opening.{FitsEdit}
+use Rattle.leveldb_version_set.specs.Engines.Opening.{FitsEdit}
 use Rattle.leveldb_files.specs.Stores.Paths.{table_path}
 use Rattle.leveldb_files.specs.Stores.Store.{HasTable, IsFirstKey, IsInternalPair, IsLastKey, IsStoreTable}
 use Rattle.leveldb_files.specs.Steps.StoreSteps.{AppendedAreBytes}

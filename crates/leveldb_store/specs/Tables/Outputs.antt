@@ -17,7 +17,7 @@ use Rattle.leveldb_table.specs.TableBuilder.{IsNewBuilder, TableBuilt, last_of, 
 use Rattle.leveldb_files.specs.Stores.Paths.{table_path}
 use Rattle.leveldb_files.specs.Stores.Store.{IsFirstKey}
 use Rattle.leveldb_files.specs.Steps.StoreSteps.{AppendedAreBytes}
-use Rattle.leveldb_version.specs.Sets.VersionSetValue.{AreFileNumbersUsedUp}
+use Rattle.leveldb_version_set.specs.Sets.VersionSetValue.{AreFileNumbersUsedUp}
 use Rattle.leveldb_store.specs.Tables.BuildTable.{AreSomeNotBuilt, HasTaken, IsNotBuilt, IsTableFile, TableChoices, puts_all}
 use Rattle.leveldb_store.specs.Tables.TableFile.{FailsToWrite}
 use Rattle.leveldb_store.specs.Tables.TableParts.{WritesParts}

@@ -7,7 +7,7 @@ use Rattle.leveldb_base.specs.declared.error.Status.{Status}
 use Rattle.leveldb_env.specs.declared.env.Env.{Ghosts}
 use Rattle.leveldb_env.specs.declared.filter.FilterPolicy.{Ghosts as FilterGhosts}
 use Rattle.leveldb_version.specs.Tables.TableCache.{files_at}
-use Rattle.leveldb_version.specs.Sets.VersionSetValue.{AreFileNumbersUsedUp}
+use Rattle.leveldb_version_set.specs.Sets.VersionSetValue.{AreFileNumbersUsedUp}
 use Rattle.leveldb_version.specs.declared.table_cache.TableCache.{TableCache}
 use Rattle.leveldb_store.specs.Tables.BuildTable.{TableChoices}
 use Rattle.leveldb_files.specs.Stores.Format.{Agrees, Format, Meaning}

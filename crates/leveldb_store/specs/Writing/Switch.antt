@@ -15,13 +15,13 @@ use Rattle.leveldb_env.specs.declared.env.Env.{Ghosts}
 use Rattle.leveldb_env.specs.declared.filter.FilterPolicy.{Ghosts as FilterGhosts}
 use Rattle.leveldb_mem.specs.Log.{log_block_size}
 use Rattle.leveldb_mem.specs.Log.Writer.{IsWriterBroken, new_writer}
-use Rattle.leveldb_version.specs.Sets.LogEdit.{set_appended}
+use Rattle.leveldb_version_set.specs.Sets.LogEdit.{set_appended}
 use Rattle.leveldb_files.specs.Levels.Overlap.{file_range, output_level}
 use Rattle.leveldb_version.specs.Versions.Change.{IsVersionAfter}
 use Rattle.leveldb_version.specs.Versions.Version.{VersionValue}
 use Rattle.leveldb_files.specs.Edits.Edit.{NewFile}
-use Rattle.leveldb_version.specs.Sets.VersionSetValue.{AreFileNumbersUsedUp, OpenManifest, VersionSetValue, broken, in_use, with_number_given}
-use Rattle.leveldb_version.specs.Engines.Writing.{IsObsolete, table_edit}
+use Rattle.leveldb_version_set.specs.Sets.VersionSetValue.{AreFileNumbersUsedUp, OpenManifest, VersionSetValue, broken, in_use, with_number_given}
+use Rattle.leveldb_version_set.specs.Engines.Writing.{IsObsolete, table_edit}
 use Rattle.leveldb_store.specs.Tables.BuildTable.{IsNotBuilt, TableChoices}
 use Rattle.leveldb_store.specs.Keeping.OpenStore.{OpenStoreValue}
 use Rattle.leveldb_store.specs.Writing.Write.{IsLogLost}

@@ -11,7 +11,7 @@ use Rattle.leveldb_env.specs.WholeFiles.{IsLost}
 use Rattle.leveldb_mem.specs.Log.Writer.{IsWriterBroken, WriterState, after_frame, broken_writer, frame}
 use Rattle.leveldb_mem.specs.MemTable.{AddsAll, FailsToPrepare, HasRoom, Kept, bytes_in}
 use Rattle.leveldb_mem.specs.WriteBatch.{Batch, batch_of}
-use Rattle.leveldb_version.specs.Sets.LogEdit.{AppendingAndSyncing, with_bytes_kept}
+use Rattle.leveldb_version_set.specs.Sets.LogEdit.{AppendingAndSyncing, with_bytes_kept}
 use Rattle.leveldb_files.specs.Stores.Paths.{log_path}
 use Rattle.leveldb_store.specs.Keeping.OpenStore.{OpenStoreValue}
 

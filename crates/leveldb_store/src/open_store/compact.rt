@@ -4,7 +4,7 @@
 ghost use Rattle.std.specs.Prelude.{◌≡◌, ◌⊎◌, ◌++◌, IfErr, IfSome, None, Option, OnOk, is_some, map};
 ghost use Rattle.leveldb_base.specs.Error.{IsOutOfMemory};
 ghost use Rattle.leveldb_files.specs.Stores.Format.{format_of};
-ghost use Rattle.leveldb_version.specs.Compactions.Picking.{CompactionValue, IsAskedByReads, IsCompactionOf};
+ghost use Rattle.leveldb_version_set.specs.Compactions.Picking.{CompactionValue, IsAskedByReads, IsCompactionOf};
 ghost use Rattle.leveldb_version.specs.Tables.TableCache.{table_options};
 ghost use Rattle.leveldb_store.specs.Tables.BuildTable.{choices_of};
 ghost use Rattle.leveldb_store.specs.Compactions.Compact.{CompactsIfAsked, CompactsStore, CompactsTables, EndsByRemoval, LogsPicked};
@@ -20,9 +20,9 @@ use leveldb_env::env::Env;
 use leveldb_env::filter::{FilterPolicy, InternalFilterPolicy};
 use leveldb_env::infolog::Logger;
 use leveldb_env::options::Options;
-use leveldb_version::compaction::Compaction;
 use leveldb_version::table_cache::TableCache;
 use leveldb_version::version_edit::VersionEdit;
+use leveldb_version_set::compaction::Compaction;
 
 impl<E: Env, C: UserCmp + Copy + Drop> OpenStore<E, C> {
     /// Does the compaction for which the current version asks, by the score of a level or else by

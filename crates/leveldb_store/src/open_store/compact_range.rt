@@ -3,10 +3,10 @@
 ghost use Rattle.std.specs.Prelude.{◌≡◌, ◌<◌, [], IfErr, IfOk, IfSome, None, OnOk, false, is_some, true};
 ghost use Rattle.leveldb_base.specs.Error.{IsOutOfMemory};
 ghost use Rattle.leveldb_base.specs.KeyTypes.{user_part};
-ghost use Rattle.leveldb_version.specs.Sets.CurrentVersion.{IsCurrent};
+ghost use Rattle.leveldb_version_set.specs.Sets.CurrentVersion.{IsCurrent};
 ghost use Rattle.leveldb_files.specs.Stores.Format.{format_of};
 ghost use Rattle.leveldb_files.specs.Levels.Overlap.{is_overlapped, named_range};
-ghost use Rattle.leveldb_version.specs.Compactions.Picking.{IsCompactionOf};
+ghost use Rattle.leveldb_version_set.specs.Compactions.Picking.{IsCompactionOf};
 ghost use Rattle.leveldb_version.specs.Tables.TableCache.{table_options};
 ghost use Rattle.leveldb_store.specs.Tables.BuildTable.{choices_of};
 ghost use Rattle.leveldb_store.specs.Compactions.Compact.{CompactsRange, CompactsTables, KeepsLevelsAbove, deepest_overlapped};
@@ -25,8 +25,8 @@ use leveldb_env::env::Env;
 use leveldb_env::filter::{FilterPolicy, InternalFilterPolicy};
 use leveldb_env::infolog::Logger;
 use leveldb_env::options::Options;
-use leveldb_version::compaction::Compaction;
 use leveldb_version::table_cache::TableCache;
+use leveldb_version_set::compaction::Compaction;
 
 impl<E: Env, C: UserCmp + Copy + Drop> OpenStore<E, C> {
     /// Makes tables of all that is in memory, does the compaction for which reads ask, if they ask

@@ -5,10 +5,10 @@ ghost use Rattle.std.specs.Prelude.{◌≡◌, ◌≢◌, ◌+◌, ◌↔◌, If
 ghost use Rattle.std.specs.declared.cmp.Ordering.TheVariants.{Less};
 ghost use Rattle.leveldb_base.specs.KeyTypes.{user_part};
 ghost use Rattle.leveldb_env.specs.Env.{AreBytes};
-ghost use Rattle.leveldb_version.specs.Compactions.Compaction.{is_base_level_for};
-ghost use Rattle.leveldb_version.specs.Compactions.Contradictions.{is_among_inputs};
+ghost use Rattle.leveldb_version.specs.Versions.DeeperLevels.{is_base_level_for};
+ghost use Rattle.leveldb_version_set.specs.Compactions.Contradictions.{is_among_inputs};
 ghost use Rattle.leveldb_files.specs.Stores.Format.{format_of};
-ghost use Rattle.leveldb_version.specs.Compactions.Picking.{IsCompactionOf};
+ghost use Rattle.leveldb_version_set.specs.Compactions.Picking.{IsCompactionOf};
 ghost use Rattle.leveldb_version.specs.Tables.TableCache.{options_by, table_options};
 ghost use Rattle.leveldb_version.specs.Versions.Version.{new_files_of};
 ghost use Rattle.leveldb_version.specs.Walks.VersionIter.{reading as reading_by};
@@ -27,9 +27,9 @@ use leveldb_env::compressor::{CompressorList, Compressors};
 use leveldb_env::env::Env;
 use leveldb_env::filter::{FilterPolicy, InternalFilterPolicy};
 use leveldb_env::options::Options;
-use leveldb_version::compaction::Compaction;
-use leveldb_version::compaction::cut::OutputCut;
 use leveldb_version::table_cache::{ReadOnce, ReadTables, ReadsTables, TableCache};
+use leveldb_version_set::compaction::Compaction;
+use leveldb_version_set::compaction::cut::OutputCut;
 use std::marker::Model;
 
 impl<E: Env, C: UserCmp + Copy + Drop> OpenStore<E, C> {
@@ -176,7 +176,7 @@ struct InputLevels<'c, C: UserCmp + Copy + Drop> {
 }
 
 impl<'c, C: UserCmp + Copy + Drop> Model for InputLevels<'c, C> {
-    ghost use Rattle.leveldb_version.specs.Compactions.Picking.{CompactionValue};
+    ghost use Rattle.leveldb_version_set.specs.Compactions.Picking.{CompactionValue};
     ghost use Rattle.leveldb_version.specs.Versions.Search.{AreDisjointLevels};
     ghost use Rattle.leveldb_version.specs.Versions.Version.{new_files_of};
 

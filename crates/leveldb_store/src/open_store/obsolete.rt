@@ -3,8 +3,8 @@
 ghost use Rattle.std.specs.Prelude.{◌≡◌, ◌↔◌, IsTrue, map, string_bytes};
 ghost use Rattle.leveldb_base.specs.declared.types.FileType.TheVariants.{Log, Table};
 ghost use Rattle.leveldb_env.specs.Env.{ListsChildren};
-ghost use Rattle.leveldb_version.specs.Sets.VersionSetValue.{numbers_in_order};
-ghost use Rattle.leveldb_version.specs.Engines.Writing.{IsObsolete};
+ghost use Rattle.leveldb_version_set.specs.Sets.VersionSetValue.{numbers_in_order};
+ghost use Rattle.leveldb_version_set.specs.Engines.Writing.{IsObsolete};
 ghost use Rattle.leveldb_files.specs.Stores.Format.{Meaning};
 ghost use Rattle.leveldb_store.specs.Keeping.OpenTables.{ClosesObsolete};
 ghost use Rattle.leveldb_store.specs.Writing.Switch.{IsFirstError, RemovesName, RemovesNames, RemovesObsolete};

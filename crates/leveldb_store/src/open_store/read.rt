@@ -9,7 +9,7 @@ ghost use Rattle.leveldb_version.specs.Versions.Search.{LooksUpNewest};
 ghost use Rattle.leveldb_version.specs.Tables.TableCache.{table_options};
 ghost use Rattle.leveldb_version.specs.Versions.Version.{new_files_of};
 ghost use Rattle.leveldb_store.specs.Keeping.OpenStore.{AreInLevels, AreNumbersGiven};
-ghost use Rattle.leveldb_version.specs.Sets.CurrentVersion.{IsCurrent};
+ghost use Rattle.leveldb_version_set.specs.Sets.CurrentVersion.{IsCurrent};
 ghost use Rattle.leveldb_store.specs.Reading.Read.{FindsInMemory, LooksUpKey, sought_key, with_charge};
 
 use super::OpenStore;

@@ -7,7 +7,7 @@ ghost use Rattle.leveldb_version.specs.Tables.TableCache.{options_by, table_opti
 ghost use Rattle.leveldb_version.specs.Walks.VersionIter.{reading as reading_by};
 ghost use Rattle.leveldb_base.specs.Error.{IsOutOfMemory};
 ghost use Rattle.leveldb_store.specs.Keeping.OpenStore.{AreInLevels, AreNumbersGiven};
-ghost use Rattle.leveldb_version.specs.Sets.CurrentVersion.{IsCurrent};
+ghost use Rattle.leveldb_version_set.specs.Sets.CurrentVersion.{IsCurrent};
 ghost use Rattle.leveldb_store.specs.declared.store_walk.StoreWalk.TheVariants.{Tables};
 ghost use Rattle.leveldb_store.specs.Reading.View.{AreChildrenOf, IsReadingOf, ReadsAlone, ViewsMerge, ViewsStore, WalksStore};
 

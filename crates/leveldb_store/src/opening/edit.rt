@@ -3,7 +3,7 @@
 ghost use Rattle.std.specs.Prelude.{◌≡◌, IfErr, IfOk};
 ghost use Rattle.leveldb_base.specs.Error.{IsOutOfMemory};
 ghost use Rattle.leveldb_env.specs.Env.{SameLocks};
-ghost use Rattle.leveldb_version.specs.Engines.Opening.{tables_edit};
+ghost use Rattle.leveldb_version_set.specs.Engines.Opening.{tables_edit};
 ghost use Rattle.leveldb_version.specs.Edits.VersionEdit.{edit_of};
 ghost use Rattle.leveldb_store.specs.Openings.OpeningSteps.{LogsTables, made_files};
 
@@ -12,7 +12,7 @@ use leveldb_base::error::Result;
 use leveldb_base::types::{FileMetaData, FileNum};
 use leveldb_env::env::Env;
 use leveldb_version::version_edit::VersionEdit;
-use leveldb_version::version_set::VersionSet;
+use leveldb_version_set::version_set::VersionSet;
 use std::alloc::Global;
 
 // Logs the edit that has these tables in place of the logs below a number.

@@ -11,7 +11,7 @@ use leveldb_base::error::{Result, StatusCode, err};
 use leveldb_base::types::FileType;
 use leveldb_env::env::Env;
 use leveldb_env::options::Options;
-use leveldb_version::version_set::make_store;
+use leveldb_version_set::version_set::make_store;
 use std::alloc::Global;
 
 // Finds the store, or makes it where there is none. Returns the files in its folder, or none where

@@ -4,7 +4,7 @@ ghost use Rattle.std.specs.Prelude.{◌≡◌, ◌+◌, ◌<◌, ◌^◌, IfSome
 ghost use Rattle.leveldb_base.specs.Error.{IsOutOfMemory};
 ghost use Rattle.leveldb_env.specs.Env.{HasCause, created, emptied};
 ghost use Rattle.leveldb_files.specs.Stores.Paths.{log_path};
-ghost use Rattle.leveldb_version.specs.Sets.VersionSetValue.{AreFileNumbersUsedUp, with_number_given};
+ghost use Rattle.leveldb_version_set.specs.Sets.VersionSetValue.{AreFileNumbersUsedUp, with_number_given};
 ghost use Rattle.leveldb_store.specs.Openings.OpeningSteps.{OpensFile, OpensLog};
 ghost use Rattle.leveldb_store.specs.Logs.ReplayLog.{HasCauseOr};
 ghost use Rattle.leveldb_store.specs.Writing.Switch.{MayGiveNumber};
@@ -18,7 +18,7 @@ use leveldb_base::types::FileNum;
 use leveldb_env::env::Env;
 use leveldb_mem::log::LogFile;
 use leveldb_mem::memtable::MemTable;
-use leveldb_version::version_set::LiveFiles;
+use leveldb_version_set::version_set::LiveFiles;
 use std::alloc::Global;
 
 // The log that is used on, or a new one of the next number, and its entries.

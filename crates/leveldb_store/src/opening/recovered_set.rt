@@ -5,7 +5,7 @@ ghost use Rattle.leveldb_base.specs.Error.{IsOutOfMemory};
 ghost use Rattle.leveldb_base.specs.declared.error.StatusCode.TheVariants.{Corruption};
 ghost use Rattle.leveldb_env.specs.Env.{FilesUnchanged, Run, SameLocks};
 ghost use Rattle.leveldb_version.specs.Edits.VersionEdit.{new_file_of};
-ghost use Rattle.leveldb_version.specs.Sets.VersionSetValue.{AreFileNumbersUsedUp, new_version_set};
+ghost use Rattle.leveldb_version_set.specs.Sets.VersionSetValue.{AreFileNumbersUsedUp, new_version_set};
 ghost use Rattle.leveldb_files.specs.Stores.Format.{format_of};
 ghost use Rattle.leveldb_store.specs.Openings.Listing.{AreFilesIn, MatchesName, names_of};
 ghost use Rattle.leveldb_store.specs.Keeping.OpenStore.{AreNumbersGiven};
@@ -24,7 +24,7 @@ use leveldb_env::env::Env;
 use leveldb_env::env::whole_files::found;
 use leveldb_env::filter::FilterPolicy;
 use leveldb_env::options::Options;
-use leveldb_version::version_set::LiveFiles;
+use leveldb_version_set::version_set::LiveFiles;
 use std::alloc::Global;
 use std::collections::BTreeSet;
 

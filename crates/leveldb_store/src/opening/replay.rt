@@ -17,7 +17,7 @@ use leveldb_env::env::Env;
 use leveldb_env::filter::{FilterPolicy, InternalFilterPolicy};
 use leveldb_env::options::Options;
 use leveldb_mem::memtable::MemTable;
-use leveldb_version::version_set::LiveFiles;
+use leveldb_version_set::version_set::LiveFiles;
 use std::alloc::Global;
 use std::collections::BTreeSet;
 

@@ -19,7 +19,7 @@ use leveldb_env::filter::{FilterPolicy, InternalFilterPolicy};
 use leveldb_env::options::Options;
 use leveldb_mem::memtable::MemTable;
 use leveldb_mem::write_batch::WriteBatch;
-use leveldb_version::version_set::LiveFiles;
+use leveldb_version_set::version_set::LiveFiles;
 use std::alloc::Global;
 
 /// What is in memory of a log that was replayed, and the number of the last entry. Where no table

@@ -20,7 +20,6 @@ use Rattle.leveldb_table.specs.TableReaderMoves.{FindsPair}
 use Rattle.leveldb_files.specs.Stores.Format.{Agrees, IsTableFault, IsTableOf, LacksCompressor, Meaning}
 use Rattle.leveldb_files.specs.Levels.Levels.{IsInRange, LevelOrder, LiveTable, table_entries}
 use Rattle.leveldb_files.specs.Levels.Overlap.{AreDisjointRanges, file_range, output_level}
-use Rattle.leveldb_version.specs.Sets.Recover.{IsUsable}
 use Rattle.leveldb_files.specs.Stores.Store.{HasTable}
 use Rattle.leveldb_files.specs.Levels.Summary.{files_of_level}
 use Rattle.leveldb_version.specs.Tables.TableCache.{ForBytesAt, IsOpenOrThere, IsTableUnopened, LacksBlockFor, MatchesFiles, SomeTable, StoreTable, TableOptions, blocks_of, files_at, key_matches, path_at, store_of, table_at, tables_of}
@@ -223,21 +222,3 @@ module _ {E C FP F : Type 0} (order : CmpGhosts (InternalKeyCmp C)) (env : EnvGh
       pub lacks : ForVersionTables (λ meaning tables. FailsFor env (λ status.
           (status.code ≡ NotSupported) × LacksCompressor by.format meaning) from to result)
       pub cache : OpensTablesOf (map (λ file. file.number) (new_files_of version)) to new
-
--- ---- a law
-
--- When the files of each level are apart: where a store may begin with the edits that leave them;
--- as long as files are left out or put in another order; and with one file more that isn't turned
--- round, in the level that is picked for its range.
-pub record StayDisjoint : Type 0 where
-  pub usable : (cmp : List ℕ → List ℕ → Ordering) → IsTotalOrder cmp → (comparator : List ℕ)
-      (edits : List Edit) → IsUsable cmp comparator edits → (files : List NewFile)
-      → ((file : NewFile) → Contains files file
-      → (live_after edits).file (level_file file) ≡ Some file) → AreDisjointLevels cmp files
-  pub fewer : (cmp : List ℕ → List ℕ → Ordering) (old new : List NewFile)
-      → ((file : NewFile) → Contains new file → Contains old file) → AreDisjointLevels cmp old
-      → AreDisjointLevels cmp new
-  pub picked : (cmp : List ℕ → List ℕ → Ordering) (files : List NewFile) (file : NewFile)
-      → file.level ≡ output_level cmp (file_range file) files
-      → cmp (user_part file.largest) (user_part file.smallest) ≢ Less
-      → AreDisjointLevels cmp files → AreDisjointLevels cmp (files ++ file ∷ [])

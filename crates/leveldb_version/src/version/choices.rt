@@ -2,7 +2,7 @@
 // LevelDB: db/version_set.cc, Version::GetOverlappingInputs
 ghost use Rattle.std.specs.Prelude.{◌≡◌, ◌<◌, IfErr, IfOk};
 ghost use Rattle.leveldb_base.specs.Error.{IsOutOfMemory};
-ghost use Rattle.leveldb_version.specs.Compactions.Compaction.{closed_range, is_base_level_for};
+ghost use Rattle.leveldb_version.specs.Versions.DeeperLevels.{closed_range, is_base_level_for};
 ghost use Rattle.leveldb_files.specs.Levels.Overlap.{AreInputs, overlapping};
 ghost use Rattle.leveldb_version.specs.Versions.Search.{AreDisjointLevels};
 ghost use Rattle.leveldb_files.specs.Levels.Summary.{total_size};
@@ -42,21 +42,21 @@ impl<C: UserCmp> Version<C> {
     }
 
     /// The files of all levels, each with its level.
-    pub(crate) fn all_files(&self) -> &[(usize, FileMetaData)]
+    pub fn all_files(&self) -> &[(usize, FileMetaData)]
         ensures { result.now ≡ self.now.files }
     {
         self.files.as_slice()
     }
 
     /// The files of a level, whichever number it is.
-    pub(crate) fn part(&self, level: usize) -> &[(usize, FileMetaData)]
+    pub fn part(&self, level: usize) -> &[(usize, FileMetaData)]
         ensures { result.now ≡ at_level level self.now.files }
     {
         part_of_level(self.files.as_slice(), level)
     }
 
     /// The files of a level that overlap the range from one user key to another, both in it.
-    pub(crate) fn files_between(
+    pub fn files_between(
         &self,
         alloc: Global,
         level: usize,
@@ -73,7 +73,7 @@ impl<C: UserCmp> Version<C> {
 
     /// The files of a level that overlap the range from one user key to another, both in it. In
     /// level 0 it is widened first, as `overlapping_inputs` does.
-    pub(crate) fn inputs_between<'a>(
+    pub fn inputs_between<'a>(
         &'a self,
         alloc: Global,
         level: usize,
@@ -89,7 +89,7 @@ impl<C: UserCmp> Version<C> {
     }
 
     /// How many bytes the files have together that `files_between` gives, up to 2^64 - 1.
-    pub(crate) fn size_between(&self, level: usize, low: UserKey<'_>, high: UserKey<'_>) -> usize
+    pub fn size_between(&self, level: usize, low: UserKey<'_>, high: UserKey<'_>) -> usize
         ensures { result ≡ total_size (overlapping
             (C.cmp self.now.cmp) level (closed_range low.now high.now) (new_files_of self.now)) }
     {

@@ -2,7 +2,7 @@
 // LevelDB: db/version_set.cc, AfterFile and BeforeFile
 ghost use Rattle.std.specs.Prelude.{◌≡◌};
 ghost use Rattle.std.specs.Option.{option_copied};
-ghost use Rattle.leveldb_version.specs.Compactions.Compaction.{closed_range};
+ghost use Rattle.leveldb_version.specs.Versions.DeeperLevels.{closed_range};
 ghost use Rattle.leveldb_files.specs.Levels.Overlap.{is_above, is_below, named_end, named_range, overlaps, sticks_out, widened_by};
 ghost use Rattle.leveldb_version.specs.Edits.VersionEdit.{new_file_of};
 

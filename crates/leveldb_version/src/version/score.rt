@@ -1,7 +1,7 @@
 //! The level whose score asks for a compaction.
 // LevelDB: db/version_set.cc, VersionSet::Finalize
 ghost use Rattle.std.specs.Prelude.{◌≡◌, ◌<◌, ◌*◌, if◌then◌else◌};
-ghost use Rattle.leveldb_version.specs.Compactions.Scores.{fullest_level, is_fuller, level_by_score, level_limit, level_load};
+ghost use Rattle.leveldb_version.specs.Versions.Scores.{fullest_level, is_fuller, level_by_score, level_limit, level_load};
 ghost use Rattle.leveldb_version.specs.Versions.Version.{new_files_of};
 
 use super::Version;
@@ -72,7 +72,7 @@ impl<C: UserCmp> Version<C> {
 }
 
 /// The product of two numbers, which may be past 64 bits.
-pub(crate) fn product(a: usize, b: usize) -> u128
+pub fn product(a: usize, b: usize) -> u128
     ensures { result ≡ a * b }
 {
     a as u128 * b as u128

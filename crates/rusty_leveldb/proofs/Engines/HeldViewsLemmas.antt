@@ -19,7 +19,7 @@ use Rattle.leveldb_iter.specs.Snapshot.{IsSmallestHeld}
 use Rattle.leveldb_iter.specs.declared.snapshot.Snapshot.{Snapshot as HeldSnapshot}
 use Rattle.leveldb_mem.specs.MemTable.{Kept}
 use Rattle.leveldb_files.specs.Stores.Format.{Agrees, Format, HasCompressorError, LacksCompressor, Meaning}
-use Rattle.leveldb_version.specs.Compactions.ShownFrom.{IsFrom, KeepsFrom}
+use Rattle.leveldb_version_set.specs.Compactions.ShownFrom.{IsFrom, KeepsFrom}
 use Rattle.leveldb_version.specs.Tables.TableCache.{TableOptions}
 use Rattle.leveldb_store.proofs.Tables.NotBuiltLemmas.{not_built_causes}
 use Rattle.leveldb_store.specs.Tables.BuildTable.{IsNotBuilt, TableChoices}

@@ -10,9 +10,9 @@ use Rattle.leveldb_mem.specs.MemTable.{IsUnion}
 use Rattle.leveldb_version.specs.Versions.Change.{IsVersionAfter}
 use Rattle.leveldb_files.specs.Stores.Format.{Format}
 use Rattle.leveldb_files.specs.Stores.Paths.{table_path}
-use Rattle.leveldb_version.specs.Compactions.Picking.{CompactionValue}
+use Rattle.leveldb_version_set.specs.Compactions.Picking.{CompactionValue}
 use Rattle.leveldb_files.specs.Stores.Store.{SameEntries}
-use Rattle.leveldb_version.specs.Sets.VersionSetValue.{VersionSetValue}
+use Rattle.leveldb_version_set.specs.Sets.VersionSetValue.{VersionSetValue}
 use Rattle.leveldb_store.proofs.Compactions.CompactsOnceLemmas.{none_compacted}
 use Rattle.leveldb_store.proofs.Keeping.KeptEntriesLemmas.{entries_charged, entries_same, equal_entries}
 use Rattle.leveldb_store.proofs.Writing.SwitchLemmas.{tables_same}

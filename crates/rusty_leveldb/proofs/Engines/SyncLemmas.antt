@@ -16,7 +16,7 @@ use Rattle.leveldb_env.proofs.EnvLemmas.{SameBut-synced, bytes_eq-apart}
 use Rattle.leveldb_mem.specs.Log.Writer.{WriterState, broken_writer}
 use Rattle.leveldb_files.specs.Stores.Paths.{IsFilePath, lock_path, log_path}
 use Rattle.leveldb_files.specs.Steps.StoreSteps.{AppendedAreBytes}
-use Rattle.leveldb_version.specs.Sets.VersionSetValue.{VersionSetValue}
+use Rattle.leveldb_version_set.specs.Sets.VersionSetValue.{VersionSetValue}
 use Rattle.leveldb_version.proofs.Tables.TableCacheLemmas.{ClosesTables-refl}
 use Rattle.leveldb_version.specs.Tables.TableCache.{table_options}
 use Rattle.leveldb_store.proofs.Keeping.GivenTablesLemmas.{given_same, same_beside}

@@ -11,7 +11,7 @@ use Rattle.leveldb_files.specs.Stores.Contents.{made}
 use Rattle.leveldb_files.specs.Stores.Paths.{lock_path}
 use Rattle.leveldb_files.specs.Steps.StoreSteps.{AppendedAreBytes}
 use Rattle.leveldb_version.specs.Tables.TableCache.{IsNewTableCache, MatchesFiles, StoreTable, TableOptions, table_key, table_options}
-use Rattle.leveldb_version.specs.Sets.VersionSetValue.{VersionSetValue}
+use Rattle.leveldb_version_set.specs.Sets.VersionSetValue.{VersionSetValue}
 use Rattle.leveldb_version.specs.declared.table_cache.TableCache.{TableCache}
 use Rattle.leveldb_store.proofs.Keeping.KeptFilesLemmas.{keeping, opens_keeping}
 use Rattle.leveldb_store.specs.Tables.BuildTable.{TableChoices}

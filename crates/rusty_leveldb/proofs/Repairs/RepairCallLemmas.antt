@@ -18,12 +18,12 @@ use Rattle.leveldb_env.specs.declared.filter.FilterPolicy.{Ghosts as FilterGhost
 use Rattle.leveldb_env.proofs.EnvLemmas.{Run-mono, Run-trans, SameBut-created, at_same, bytes_eq-apart, call}
 use Rattle.leveldb_table.specs.TableBlock.{HasLackCode}
 use Rattle.leveldb_files.proofs.Steps.BytesLemmas.{bytes_stay}
-use Rattle.leveldb_version.proofs.Repairs.RepairingKeepsLemmas.{manifest_fits, number_fits, still_there}
+use Rattle.leveldb_version_set.proofs.Repairs.RepairingKeepsLemmas.{manifest_fits, number_fits, still_there}
 use Rattle.leveldb_files.proofs.Histories.SafeLemmas.{by_name}
 use Rattle.leveldb_files.specs.Stores.Format.{Agrees, Format, Meaning}
-use Rattle.leveldb_version.specs.Repairs.Found.{HasNoTableNorLog, IsAnyTable}
+use Rattle.leveldb_version_set.specs.Repairs.Found.{HasNoTableNorLog, IsAnyTable}
 use Rattle.leveldb_files.specs.Stores.Paths.{lock_path}
-use Rattle.leveldb_version.specs.Repairs.Repairing.{IsAmidRepair}
+use Rattle.leveldb_version_set.specs.Repairs.Repairing.{IsAmidRepair}
 use Rattle.leveldb_files.specs.Steps.StoreSteps.{AppendedAreBytes}
 use Rattle.leveldb_store.proofs.Keeping.TableKeepsLemmas.{types_apart}
 use Rattle.leveldb_store.specs.Tables.BuildTable.{TableChoices}

@@ -17,12 +17,12 @@ use Rattle.std.specs.Option.{option_map}
 use Rattle.leveldb_env.specs.Env.{BeforeOrAfter, File, Files, SameBut, bytes_of, created, in_folder, or_empty}
 use Rattle.leveldb_env.specs.declared.filter.FilterPolicy.{Ghosts as FilterGhosts}
 use Rattle.leveldb_env.proofs.EnvLemmas.{SameBut-created}
-use Rattle.leveldb_version.proofs.Repairs.FoundLemmas.{found_goes_by_bytes}
+use Rattle.leveldb_version_set.proofs.Repairs.FoundLemmas.{found_goes_by_bytes}
 use Rattle.leveldb_files.proofs.Stores.ManagedLemmas.{numbers_apart}
 use Rattle.leveldb_files.specs.Stores.Format.{Format, Meaning}
-use Rattle.leveldb_version.specs.Repairs.Found.{AreFound, HasNoTableNorLog, IsAnyTable, IsFound}
+use Rattle.leveldb_version_set.specs.Repairs.Found.{AreFound, HasNoTableNorLog, IsAnyTable, IsFound}
 use Rattle.leveldb_files.specs.Stores.Paths.{current_path, lock_path}
-use Rattle.leveldb_version.specs.Repairs.Repairing.{IsGreatestInFolder, IsAmidRepair, SameTablesAndLogs}
+use Rattle.leveldb_version_set.specs.Repairs.Repairing.{IsGreatestInFolder, IsAmidRepair, SameTablesAndLogs}
 use Rattle.leveldb_store.proofs.Keeping.TableKeepsLemmas.{types_apart}
 use Rattle.leveldb_store.specs.Logs.NextFound.{BeginsAt}
 use Rattle.leveldb_store.specs.Tables.BuildTable.{TableChoices}

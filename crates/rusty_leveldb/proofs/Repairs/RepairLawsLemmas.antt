@@ -11,15 +11,15 @@ use Rattle.leveldb_env.specs.declared.env.Env.{Ghosts}
 use Rattle.leveldb_env.specs.declared.filter.FilterPolicy.{Ghosts as FilterGhosts}
 use Rattle.leveldb_env.proofs.EnvLemmas.{since_start}
 use Rattle.leveldb_store.specs.Tables.BuildTable.{TableChoices}
-use Rattle.leveldb_version.proofs.Repairs.FoundLemmas.{found_goes_by_bytes}
-use Rattle.leveldb_version.proofs.Repairs.RepairingFoundLemmas.{found_shows_the_same}
+use Rattle.leveldb_version_set.proofs.Repairs.FoundLemmas.{found_goes_by_bytes}
+use Rattle.leveldb_version_set.proofs.Repairs.RepairingFoundLemmas.{found_shows_the_same}
 use Rattle.leveldb_files.proofs.Stores.KeptLemmas.{kept_left}
 use Rattle.leveldb_files.specs.Stores.Paths.{lock_path}
 use Rattle.leveldb_store.proofs.Compactions.MergedMadeLemmas.{BuildsForStore}
 use Rattle.leveldb_files.proofs.Histories.SafeLemmas.{some_is}
 use Rattle.leveldb_files.specs.Stores.Contents.{Contents, Store, made, missing}
 use Rattle.leveldb_files.specs.Stores.Format.{Agrees, Meaning}
-use Rattle.leveldb_version.specs.Repairs.Found.{AreFound, IsAnyTable, IsFound}
+use Rattle.leveldb_version_set.specs.Repairs.Found.{AreFound, IsAnyTable, IsFound}
 use Rattle.leveldb_files.specs.Stores.Store.{HasNoStore}
 use Rattle.leveldb_repair.proofs.RepairAgainLemmas.{leaves_found}
 use Rattle.leveldb_repair.proofs.RepairPartsLemmas.{crashes_leave_found, moments_leave_found}

@@ -10,12 +10,12 @@ use Rattle.leveldb_env.specs.Compressor.{Coding, Decodes, decoded_under}
 use Rattle.leveldb_env.specs.Env.{BeforeOrAfter, Disk, Files, Observed, created}
 use Rattle.leveldb_env.proofs.EnvLemmas.{SameBut-created}
 use Rattle.leveldb_table.specs.TableLaws.{DecodesMore}
-use Rattle.leveldb_version.proofs.Repairs.FoundLemmas.{one_found_set}
-use Rattle.leveldb_version.proofs.Repairs.RepairingKeepsLemmas.{repair_keeps}
-use Rattle.leveldb_version.proofs.Repairs.RepairingLemmas.{repaired_holds}
+use Rattle.leveldb_version_set.proofs.Repairs.FoundLemmas.{one_found_set}
+use Rattle.leveldb_version_set.proofs.Repairs.RepairingKeepsLemmas.{repair_keeps}
+use Rattle.leveldb_version_set.proofs.Repairs.RepairingLemmas.{repaired_holds}
 use Rattle.leveldb_files.specs.Stores.Contents.{Store}
 use Rattle.leveldb_files.specs.Stores.Format.{Agrees, Format, IsTableOf, Meaning}
-use Rattle.leveldb_version.specs.Repairs.Found.{IsAnyTable}
+use Rattle.leveldb_version_set.specs.Repairs.Found.{IsAnyTable}
 use Rattle.leveldb_files.specs.Histories.Holds.{Holds}
 use Rattle.leveldb_files.specs.Levels.Levels.{table_entries}
 use Rattle.leveldb_files.specs.Stores.Paths.{current_path, lock_path}

@@ -21,7 +21,7 @@ use Rattle.leveldb_files.proofs.Levels.TablesLemmas.{tables_bounded}
 use Rattle.leveldb_version.proofs.Versions.VersionLemmas.{internal_total}
 use Rattle.leveldb_files.specs.Stores.Format.{IsTableOf, Meaning}
 use Rattle.leveldb_files.specs.Levels.Levels.{AreDisjoint, IsInRange, LiveTable, table_entries}
-use Rattle.leveldb_version.specs.Repairs.Repairing.{AreLevelOne, HasRepairedTables}
+use Rattle.leveldb_version_set.specs.Repairs.Repairing.{AreLevelOne, HasRepairedTables}
 use Rattle.leveldb_files.specs.Stores.Store.{HasTable, IsInternalPair, SameEntries}
 
 -- ---- rising pairs

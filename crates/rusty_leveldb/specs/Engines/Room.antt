@@ -13,7 +13,7 @@ use Rattle.leveldb_iter.specs.Snapshot.{IsSmallestHeld}
 use Rattle.leveldb_files.specs.Stores.Format.{Format}
 use Rattle.leveldb_files.specs.Stores.Store.{SameEntries}
 use Rattle.leveldb_version.specs.Tables.TableCache.{TableOptions}
-use Rattle.leveldb_version.specs.Sets.VersionSetValue.{VersionSetValue}
+use Rattle.leveldb_version_set.specs.Sets.VersionSetValue.{VersionSetValue}
 use Rattle.leveldb_version.specs.declared.table_cache.TableCache.{TableCache}
 use Rattle.leveldb_store.specs.Tables.BuildTable.{TableChoices}
 use Rattle.leveldb_store.specs.Compactions.Compact.{FailsToCompactRange, KeepsCompacted}

@@ -12,7 +12,7 @@ use Rattle.leveldb_env.specs.declared.env.Env.{Ghosts}
 use Rattle.leveldb_env.specs.declared.filter.FilterPolicy.{Ghosts as FilterGhosts}
 use Rattle.leveldb_files.specs.Stores.Contents.{made}
 use Rattle.leveldb_files.specs.Stores.Format.{Agrees, Format, Meaning}
-use Rattle.leveldb_version.specs.Repairs.Found.{AreFound, HasNoTableNorLog, IsAnyTable}
+use Rattle.leveldb_version_set.specs.Repairs.Found.{AreFound, HasNoTableNorLog, IsAnyTable}
 use Rattle.leveldb_files.specs.Stores.Paths.{current_path, lock_path}
 use Rattle.leveldb_files.specs.Steps.StoreSteps.{AppendedAreBytes}
 use Rattle.leveldb_store.specs.Tables.BuildTable.{TableChoices}

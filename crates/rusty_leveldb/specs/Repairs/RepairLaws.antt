@@ -10,8 +10,8 @@ use Rattle.leveldb_env.specs.declared.filter.FilterPolicy.{Ghosts as FilterGhost
 use Rattle.leveldb_store.specs.Tables.BuildTable.{TableChoices}
 use Rattle.leveldb_files.specs.Stores.Format.{Agrees, Meaning}
 use Rattle.leveldb_files.specs.Histories.Holds.{IsHonest}
-use Rattle.leveldb_version.specs.Repairs.Found.{IsAnyTable}
-use Rattle.leveldb_version.specs.Repairs.Repairing.{HasNoOtherFile, SameFound}
+use Rattle.leveldb_version_set.specs.Repairs.Found.{IsAnyTable}
+use Rattle.leveldb_version_set.specs.Repairs.Repairing.{HasNoOtherFile, SameFound}
 use Rattle.leveldb_files.specs.Stores.Store.{HasEdits}
 use Rattle.leveldb_files.specs.Steps.StoreSteps.{AppendedAreBytes, IsKept}
 use Rattle.leveldb_files.specs.Edits.Edit.{Edit}

@@ -7,7 +7,7 @@ use Rattle.leveldb_env.specs.contracts.compressor.CompressorListCompressors.TheI
 use Rattle.leveldb_env.specs.contracts.filter.internal.InternalFilterPolicyFilterPolicy.TheImpl.{ghosts as key_policy}
 use Rattle.leveldb_iter.specs.Walk.{key_order}
 use Rattle.leveldb_table.specs.TableBuilder.{IsNewBuilder, order_of}
-use Rattle.leveldb_version.proofs.Sets.RecoverLemmas.{cause_of_error}
+use Rattle.leveldb_version_set.proofs.Sets.RecoverLemmas.{cause_of_error}
 use Rattle.leveldb_files.specs.Stores.Store.{IsFirstKey}
 use Rattle.leveldb_store.specs.Tables.BuildTable.{choices_of}
 use Rattle.leveldb_store.proofs.Tables.BuildTableLemmas.{MakesTable-before, MakesTable-failed, MakesTable-none, MakesTable-written, built_of_store, first_key_is, first_some, none_first, stays_beside, stays_over-none, stays_over-trans, written_why}

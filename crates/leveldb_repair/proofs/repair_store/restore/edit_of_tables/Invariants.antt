@@ -1,5 +1,5 @@
 use Rattle.std.proofs.Common.{◌≡◌, ◌++◌}
-use Rattle.leveldb_version.specs.Repairs.Repairing.{repaired_edit}
+use Rattle.leveldb_version_set.specs.Repairs.Repairing.{repaired_edit}
 use Rattle.leveldb_version.specs.Edits.VersionEdit.{edit_of}
 use Rattle.leveldb_repair.specs.WriteFound.{files_of_level_one}
 use Rattle.leveldb_repair.proofs.repair_store.restore.edit_of_tables.Given as goal

@@ -1,7 +1,7 @@
 use Rattle.std.proofs.Common.{◌∙◌, arith, sym}
 use Rattle.std.proofs.lemmas.Result.{err_from_is_err_and}
 use Rattle.leveldb_repair.proofs.RepairWriteLemmas.{ended, next_has_one, no_memory, unwritten, used_up}
-use Rattle.leveldb_version.specs.Repairs.Repairing.{repaired_edit}
+use Rattle.leveldb_version_set.specs.Repairs.Repairing.{repaired_edit}
 use Rattle.leveldb_repair.specs.WriteFound.{files_of_level_one}
 use Rattle.leveldb_repair.proofs.repair_store.restore.write_store.Goals as goal
 

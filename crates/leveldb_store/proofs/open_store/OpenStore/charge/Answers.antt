@@ -1,9 +1,9 @@
 use Rattle.std.specs.Prelude.{◌≢◌, IsTrue, string_bytes}
 use Rattle.std.proofs.Common.{◌≡◌, ◌∙◌, ap, sym, subst}
 use Rattle.leveldb_base.specs.History.{AreUpTo}
-use Rattle.leveldb_version.proofs.Sets.CurrentVersionLemmas.{charged_cmp}
-use Rattle.leveldb_version.specs.Sets.CurrentVersion.{VersionsValue}
-use Rattle.leveldb_version.specs.Sets.VersionSetValue.{VersionSetValue, unmade}
+use Rattle.leveldb_version_set.proofs.Sets.CurrentVersionLemmas.{charged_cmp}
+use Rattle.leveldb_version_set.specs.Sets.CurrentVersion.{VersionsValue}
+use Rattle.leveldb_version_set.specs.Sets.VersionSetValue.{VersionSetValue, unmade}
 use Rattle.leveldb_store.proofs.Keeping.CurrentVersionLemmas.{charged_store}
 use Rattle.leveldb_store.specs.Keeping.OpenStore.{AreInLevels, AreNumbersGiven, HasOwnManifest}
 use Rattle.leveldb_store.proofs.open_store.OpenStore.charge.Goals as goal

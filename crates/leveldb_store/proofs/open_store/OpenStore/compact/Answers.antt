@@ -4,13 +4,13 @@ use Rattle.std.proofs.lemmas.Result.{err_from_is_err_and}
 use Rattle.std.specs.Cmp.{IsTotalOrder}
 use Rattle.leveldb_base.specs.CmpLaws.{total_order}
 use Rattle.leveldb_base.specs.declared.types.FileMetaData.{FileMetaData}
-use Rattle.leveldb_version.specs.Compactions.CompactionEdit.{compaction_edit}
+use Rattle.leveldb_version_set.specs.Compactions.CompactionEdit.{compaction_edit}
 use Rattle.leveldb_version.specs.Edits.FullEdit.{files_after}
-use Rattle.leveldb_version.specs.Sets.LogEdit.{WritesBytes}
-use Rattle.leveldb_version.specs.Compactions.Picking.{CompactionValue}
+use Rattle.leveldb_version_set.specs.Sets.LogEdit.{WritesBytes}
+use Rattle.leveldb_version_set.specs.Compactions.Picking.{CompactionValue}
 use Rattle.leveldb_files.specs.Edits.Edit.{Edit, LevelFile, NewFile}
 use Rattle.leveldb_version.specs.Edits.VersionEdit.{edit_of, new_file_of}
-use Rattle.leveldb_version.specs.Sets.VersionSetValue.{OpenManifest, in_use}
+use Rattle.leveldb_version_set.specs.Sets.VersionSetValue.{OpenManifest, in_use}
 use Rattle.leveldb_store.proofs.Compactions.CompactCallLemmas.{compacts_made, compacts_no_more, compacts_none, edit_is, made_levels, made_levels_fit}
 use Rattle.leveldb_store.specs.Keeping.OpenStore.{AreInLevels, HasOwnManifest, OpenStoreValue}
 use Rattle.leveldb_store.proofs.open_store.OpenStore.compact.Goals as goal

@@ -1,6 +1,6 @@
 use Rattle.std.proofs.Common.{inl, refl, subst}
 use Rattle.std.proofs.lemmas.Result.{IfOk-weaker, err_from_is_err_and}
-use Rattle.leveldb_version.specs.Compactions.Picking.{IsAskedByReads}
+use Rattle.leveldb_version_set.specs.Compactions.Picking.{IsAskedByReads}
 use Rattle.leveldb_store.proofs.Compactions.AskedCompactionLemmas.{logs_picked, picked_may_be}
 use Rattle.leveldb_store.proofs.Compactions.CompactedLemmas.{failed_at_once}
 use Rattle.leveldb_store.proofs.Compactions.CompactsOnceLemmas.{none_compacted}

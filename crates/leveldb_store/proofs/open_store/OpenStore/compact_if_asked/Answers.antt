@@ -1,7 +1,7 @@
 use Rattle.std.proofs.Common.{inl, refl, subst}
 use Rattle.std.proofs.lemmas.Result.{err_from_is_err_and}
-use Rattle.leveldb_version.specs.Sets.CurrentVersion.{IsCurrent}
-use Rattle.leveldb_version.specs.Compactions.Picking.{IsAskedFor}
+use Rattle.leveldb_version_set.specs.Sets.CurrentVersion.{IsCurrent}
+use Rattle.leveldb_version_set.specs.Compactions.Picking.{IsAskedFor}
 use Rattle.leveldb_store.proofs.Compactions.AskedCompactionLemmas.{compacts_if_asked, picked_ends, picked_may_be}
 use Rattle.leveldb_store.proofs.Compactions.CompactedLemmas.{failed_at_once}
 use Rattle.leveldb_store.proofs.Compactions.CompactsOnceLemmas.{none_compacted}

@@ -1,9 +1,9 @@
 use Rattle.std.proofs.Common.{◌≡◌, ◌∙◌, ◌+◌, ◌<◌, ap, arith, length, subst, sym}
 use Rattle.leveldb_base.specs.History.{AreUpTo, greatest, placed}
 use Rattle.leveldb_mem.proofs.EntryLemmas.{new_after}
-use Rattle.leveldb_version.specs.Sets.CurrentVersion.{VersionsValue}
+use Rattle.leveldb_version_set.specs.Sets.CurrentVersion.{VersionsValue}
 use Rattle.leveldb_files.specs.Edits.Edit.{Edit}
-use Rattle.leveldb_version.specs.Sets.VersionSetValue.{VersionSetValue}
+use Rattle.leveldb_version_set.specs.Sets.VersionSetValue.{VersionSetValue}
 use Rattle.leveldb_store.proofs.Keeping.GivenNumbersLemmas.{live_given}
 use Rattle.leveldb_store.specs.Keeping.OpenStore.{AreInLevels, HasOwnManifest}
 use Rattle.leveldb_store.proofs.Writing.WriteLemmas.{greatest_below, inserted_up_to}

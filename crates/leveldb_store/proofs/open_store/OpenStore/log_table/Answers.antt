@@ -4,7 +4,7 @@ use Rattle.std.proofs.lemmas.List.Elements.{All-cons, All-nil}
 use Rattle.leveldb_version.specs.Edits.FullEdit.{files_after}
 use Rattle.leveldb_files.specs.Edits.Edit.{Edit, NewFile}
 use Rattle.leveldb_version.specs.Edits.VersionEdit.{edit_of, new_file_of}
-use Rattle.leveldb_version.specs.Engines.Writing.{table_edit}
+use Rattle.leveldb_version_set.specs.Engines.Writing.{table_edit}
 use Rattle.leveldb_store.specs.Keeping.OpenStore.{AreInLevels}
 use Rattle.leveldb_store.proofs.Writing.Level0TableLemmas.{table_edit_fits, table_edit_made}
 use Rattle.leveldb_store.proofs.open_store.OpenStore.log_table.Goals as goal

@@ -2,7 +2,7 @@ use Rattle.std.proofs.Common.{◌∙◌, ap, subst, sym}
 use Rattle.std.specs.Prelude.{OnOk}
 use Rattle.leveldb_base.specs.History.{AreUpTo}
 use Rattle.leveldb_version.specs.Versions.Change.{IsVersionAfter}
-use Rattle.leveldb_version.specs.Sets.LogEdit.{LogEditResult}
+use Rattle.leveldb_version_set.specs.Sets.LogEdit.{LogEditResult}
 use Rattle.leveldb_version.specs.Edits.VersionEdit.{edit_of}
 use Rattle.leveldb_store.proofs.Keeping.CurrentVersionLemmas.{current_by, logged_cmp, unlogged_store}
 use Rattle.leveldb_store.proofs.Writing.Level0TableLemmas.{KeepsManifest, in_use_of, keeps_manifest, logged_given, logged_levels, own_again}

@@ -5,7 +5,7 @@ use Rattle.leveldb_base.specs.History.{AreUpTo}
 use Rattle.leveldb_version.specs.Versions.Search.{AreDisjointLevels}
 use Rattle.leveldb_version.specs.Versions.Version.{VersionValue, new_files_of}
 use Rattle.leveldb_files.specs.Edits.Edit.{Edit}
-use Rattle.leveldb_version.specs.Sets.VersionSetValue.{VersionSetValue}
+use Rattle.leveldb_version_set.specs.Sets.VersionSetValue.{VersionSetValue}
 use Rattle.leveldb_store.specs.Compactions.Compact.{IsOfStore}
 use Rattle.leveldb_store.specs.Keeping.OpenStore.{AreInLevels, HasOwnManifest, OpenStoreValue}
 use Rattle.leveldb_store.proofs.Tables.BuildTableLemmas.{built_of_store}

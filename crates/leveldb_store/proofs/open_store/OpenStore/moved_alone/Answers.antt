@@ -2,7 +2,7 @@ use Rattle.std.proofs.Common.{◌≡◌, ◌≢◌, refl, subst}
 use Rattle.std.specs.declared.cmp.Ordering.TheVariants.{Less}
 use Rattle.leveldb_base.specs.KeyTypes.{user_part}
 use Rattle.leveldb_env.specs.Env.{AreBytes}
-use Rattle.leveldb_version.specs.Compactions.Compaction.{MayMove}
+use Rattle.leveldb_version_set.specs.Compactions.Compaction.{MayMove}
 use Rattle.leveldb_version.specs.Versions.Version.{new_files_of}
 use Rattle.leveldb_store.proofs.Compactions.MovedFileLemmas.{first_is_alone}
 use Rattle.leveldb_store.proofs.open_store.OpenStore.moved_alone.Goals as goal

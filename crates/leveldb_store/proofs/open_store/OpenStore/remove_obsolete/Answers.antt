@@ -3,7 +3,7 @@ use Rattle.std.specs.Prelude.{◌≢◌, IsTrue, string_bytes}
 use Rattle.std.proofs.lemmas.Result.{err_from_is_err_and}
 use Rattle.leveldb_env.proofs.EnvLemmas.{Run-call, Run-mono}
 use Rattle.leveldb_env.specs.Env.{ListsChildren}
-use Rattle.leveldb_version.specs.Sets.VersionSetValue.{broken}
+use Rattle.leveldb_version_set.specs.Sets.VersionSetValue.{broken}
 use Rattle.leveldb_store.proofs.Keeping.OpenTablesLemmas.{no_removal, removal_then}
 use Rattle.leveldb_store.proofs.Keeping.RemoveLemmas.{RemovesObsolete-after, RemovesObsolete-kept, RemovesObsolete-unlisted, none_removed, removal_keeps, removing_after}
 use Rattle.leveldb_store.proofs.Writing.Level0TableLemmas.{keeps_nothing}

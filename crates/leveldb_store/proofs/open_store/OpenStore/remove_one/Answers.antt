@@ -5,7 +5,7 @@ use Rattle.leveldb_store.proofs.Keeping.RemoveLemmas.{not_obsolete_name}
 use Rattle.std.specs.Prelude.{IsTrue}
 use Rattle.leveldb_env.specs.Env.{SameBut, in_folder}
 use Rattle.leveldb_version.specs.Tables.TableCache.{files_at}
-use Rattle.leveldb_version.specs.Engines.Writing.{IsObsolete}
+use Rattle.leveldb_version_set.specs.Engines.Writing.{IsObsolete}
 use Rattle.leveldb_store.proofs.open_store.OpenStore.remove_one.Goals.{else-is_table, then-is_table}
 use Rattle.leveldb_store.proofs.open_store.OpenStore.remove_one.Goals as goal
 

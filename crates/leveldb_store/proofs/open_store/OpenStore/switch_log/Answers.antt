@@ -6,9 +6,9 @@ use Rattle.leveldb_base.specs.History.{AreUpTo}
 use Rattle.leveldb_env.specs.Env.{BeforeOrAfter, ChangesFiles, emptied}
 use Rattle.leveldb_mem.specs.Log.LogFile.{LogFileState}
 use Rattle.leveldb_files.specs.Stores.Paths.{log_path}
-use Rattle.leveldb_version.specs.Sets.CurrentVersion.{VersionsValue}
+use Rattle.leveldb_version_set.specs.Sets.CurrentVersion.{VersionsValue}
 use Rattle.leveldb_files.specs.Edits.Edit.{Edit}
-use Rattle.leveldb_version.specs.Sets.VersionSetValue.{VersionSetValue}
+use Rattle.leveldb_version_set.specs.Sets.VersionSetValue.{VersionSetValue}
 use Rattle.leveldb_store.proofs.Keeping.GivenNumbersLemmas.{live_given}
 use Rattle.leveldb_store.specs.Keeping.OpenStore.{AreInLevels, HasOwnManifest}
 use Rattle.leveldb_store.specs.Writing.Write.{SyncsLog}

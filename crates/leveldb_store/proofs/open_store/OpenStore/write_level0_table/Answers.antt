@@ -8,9 +8,9 @@ use Rattle.leveldb_store.specs.Keeping.Written.{imm_entries}
 use Rattle.leveldb_store.specs.Keeping.WrittenFrom.{AddsNoEntry}
 use Rattle.std.proofs.lemmas.Result.{err_from_is_err_and, IfOk-from_err}
 use Rattle.leveldb_base.specs.CmpLaws.{total_order}
-use Rattle.leveldb_version.specs.Sets.CurrentVersion.{VersionsValue}
+use Rattle.leveldb_version_set.specs.Sets.CurrentVersion.{VersionsValue}
 use Rattle.leveldb_files.specs.Edits.Edit.{Edit}
-use Rattle.leveldb_version.specs.Sets.VersionSetValue.{VersionSetValue, broken}
+use Rattle.leveldb_version_set.specs.Sets.VersionSetValue.{VersionSetValue, broken}
 use Rattle.leveldb_base.specs.History.{AreUpTo}
 use Rattle.leveldb_store.proofs.Keeping.GivenNumbersLemmas.{live_given}
 use Rattle.leveldb_store.specs.Keeping.OpenStore.{AreInLevels, HasOwnManifest, OpenStoreValue}

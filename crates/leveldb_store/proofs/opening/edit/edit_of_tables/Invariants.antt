@@ -1,5 +1,5 @@
 use Rattle.std.proofs.Common.{◌≡◌, ◌++◌}
-use Rattle.leveldb_version.specs.Engines.Opening.{tables_edit}
+use Rattle.leveldb_version_set.specs.Engines.Opening.{tables_edit}
 use Rattle.leveldb_version.specs.Edits.VersionEdit.{edit_of}
 use Rattle.leveldb_store.specs.Openings.OpeningSteps.{made_files}
 use Rattle.leveldb_store.proofs.opening.edit.edit_of_tables.Given as goal

@@ -3,7 +3,7 @@ use Rattle.std.specs.Prelude.{string_bytes}
 use Rattle.std.proofs.lemmas.Result.{IfOk-from_err}
 use Rattle.leveldb_env.specs.Env.{BeforeOrAfter, ChangesFiles, emptied}
 use Rattle.leveldb_files.specs.Stores.Paths.{log_path}
-use Rattle.leveldb_version.proofs.Sets.RecoverLemmas.{cause_of_error}
+use Rattle.leveldb_version_set.proofs.Sets.RecoverLemmas.{cause_of_error}
 use Rattle.leveldb_store.specs.Logs.ReplayLog.{HasCauseOr}
 use Rattle.leveldb_store.proofs.ExitLemmas.{at_error, cause_passed, change_passed, nothing_done, uncounted}
 use Rattle.leveldb_store.proofs.opening.log_to_write.make_log.Goals as goal

@@ -3,9 +3,9 @@ use Rattle.std.proofs.lemmas.Result.{err_from_is_err_and}
 use Rattle.leveldb_base.specs.declared.error.Status.{Status}
 use Rattle.leveldb_env.specs.Env.{emptied}
 use Rattle.leveldb_env.specs.declared.env.Env.{Ghosts}
-use Rattle.leveldb_version.proofs.Sets.RecoverLemmas.{cause_of_error}
+use Rattle.leveldb_version_set.proofs.Sets.RecoverLemmas.{cause_of_error}
 use Rattle.leveldb_files.specs.Stores.Paths.{log_path}
-use Rattle.leveldb_version.specs.Sets.VersionSetValue.{AreFileNumbersUsedUp, VersionSetValue}
+use Rattle.leveldb_version_set.specs.Sets.VersionSetValue.{AreFileNumbersUsedUp, VersionSetValue}
 use Rattle.leveldb_store.specs.Openings.OpeningSteps.{OpensFile, OpensLog}
 use Rattle.leveldb_store.specs.Logs.ReplayLog.{HasCauseOr}
 use Rattle.leveldb_store.specs.Writing.Switch.{MayGiveNumber}

@@ -4,7 +4,7 @@ use Rattle.std.proofs.lemmas.List.{take_all}
 use Rattle.std.proofs.lemmas.List.Elements.{All-nil}
 use Rattle.leveldb_env.specs.Env.{HasCause, IsMissing}
 use Rattle.std.proofs.lemmas.Result.{err_from_is_err_and}
-use Rattle.leveldb_version.proofs.Sets.UsableLemmas.{as_new_files, file_is_one}
+use Rattle.leveldb_version_set.proofs.Sets.UsableLemmas.{as_new_files, file_is_one}
 use Rattle.leveldb_files.specs.Stores.Paths.{table_path}
 use Rattle.leveldb_version.specs.Edits.VersionEdit.{new_file_of}
 use Rattle.leveldb_store.proofs.Openings.OpeningCausesLemmas.{table_lost, tables_more}

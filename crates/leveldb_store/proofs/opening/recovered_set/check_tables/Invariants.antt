@@ -1,7 +1,7 @@
 use Rattle.std.proofs.Common.{◌≡◌, take}
 use Rattle.std.specs.Prelude.{IsTrue}
 use Rattle.leveldb_env.specs.Env.{FilesUnchanged, Run, SameLocks}
-use Rattle.leveldb_version.proofs.Sets.UsableLemmas.{as_new_files}
+use Rattle.leveldb_version_set.proofs.Sets.UsableLemmas.{as_new_files}
 use Rattle.leveldb_store.specs.Openings.OpensStore.{AreTablesThere}
 use Rattle.leveldb_store.proofs.opening.recovered_set.check_tables.Given as goal
 

@@ -3,8 +3,8 @@ use Rattle.std.specs.Prelude.{All, IsTrue}
 use Rattle.std.proofs.lemmas.Result.{err_from_is_err_and}
 use Rattle.leveldb_base.proofs.HistoryLemmas.{exact_order}
 use Rattle.leveldb_env.specs.Env.{FilesUnchanged, Run}
-use Rattle.leveldb_version.proofs.Sets.RecoveredLemmas.{read_is_recovered, unread_is_unrecovered}
-use Rattle.leveldb_version.specs.Sets.VersionSetValue.{VersionSetValue, new_version_set, unmade}
+use Rattle.leveldb_version_set.proofs.Sets.RecoveredLemmas.{read_is_recovered, unread_is_unrecovered}
+use Rattle.leveldb_version_set.specs.Sets.VersionSetValue.{VersionSetValue, new_version_set, unmade}
 use Rattle.leveldb_store.specs.Openings.Listing.{MatchesName, names_of}
 use Rattle.leveldb_store.specs.Openings.OpeningSteps.{ChecksSet, MarksNames}
 use Rattle.leveldb_store.proofs.Openings.ListingLemmas.{checks_listed, marks_listed, numbers_listed}

@@ -2,7 +2,7 @@ use Rattle.std.proofs.Common.{Err, Ok, subst, sym}
 use Rattle.std.specs.Prelude.{All}
 use Rattle.std.proofs.lemmas.Result.{err_from_is_err_and}
 use Rattle.leveldb_base.proofs.HistoryLemmas.{exact_order}
-use Rattle.leveldb_version.specs.Sets.VersionSetValue.{new_version_set}
+use Rattle.leveldb_version_set.specs.Sets.VersionSetValue.{new_version_set}
 use Rattle.leveldb_store.specs.Openings.Listing.{MatchesName, names_of}
 use Rattle.leveldb_store.specs.Openings.OpeningSteps.{ChecksSet, MarksNames}
 use Rattle.leveldb_store.proofs.Openings.ListingLemmas.{checks_listed, marks_listed, numbers_listed}

@@ -1,6 +1,6 @@
 use Rattle.std.proofs.Common.{◌≡◌, ◌≢◌, ⊎_elim, ℕ, List, [], ap, arith, inl, inr, length}
 use Rattle.std.proofs.lemmas.Result.{err_from_is_err_and}
-use Rattle.leveldb_version.proofs.Sets.RecoverLemmas.{cause_of_error}
+use Rattle.leveldb_version_set.proofs.Sets.RecoverLemmas.{cause_of_error}
 use Rattle.leveldb_store.proofs.Logs.ReplayAllLemmas.{TablesAll-made, TablesAll-none}
 use Rattle.leveldb_store.proofs.Logs.ReplayLogLemmas.{none_of_length}
 use Rattle.leveldb_store.proofs.opening.replay.tables_made.Goals as goal

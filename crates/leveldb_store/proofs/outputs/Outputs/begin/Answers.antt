@@ -4,7 +4,7 @@ use Rattle.leveldb_base.specs.contracts.cmp.internal.InternalKeyCmpCmp.TheImpl.{
 use Rattle.leveldb_env.proofs.EnvLemmas.{cause_refused}
 use Rattle.leveldb_env.specs.contracts.compressor.CompressorListCompressors.TheImpl.{ghosts as compressors}
 use Rattle.leveldb_env.specs.contracts.filter.internal.InternalFilterPolicyFilterPolicy.TheImpl.{ghosts as key_policy}
-use Rattle.leveldb_version.specs.Sets.VersionSetValue.{AreFileNumbersUsedUp}
+use Rattle.leveldb_version_set.specs.Sets.VersionSetValue.{AreFileNumbersUsedUp}
 use Rattle.leveldb_store.specs.Tables.BuildTable.{choices_of}
 use Rattle.leveldb_store.specs.Tables.TableFile.{ChangesOneFile, FailsToWrite}
 use Rattle.leveldb_store.proofs.Tables.CreatedLemmas.{first_added, first_changes, key_accepted, none_cause, none_changes, uncreated_changes}

@@ -1,7 +1,7 @@
 use Rattle.std.proofs.Common.{◌∙◌, ℕ, if◌then◌else◌, ap, sym}
 use Rattle.leveldb_version.specs.Versions.Version.{new_files_of}
-use Rattle.leveldb_version.specs.Compactions.Scores.{is_fuller}
-use Rattle.leveldb_version.proofs.Compactions.ScoresLemmas.{fold_next}
+use Rattle.leveldb_version.specs.Versions.Scores.{is_fuller}
+use Rattle.leveldb_version.proofs.Versions.ScoresLemmas.{fold_next}
 use Rattle.leveldb_version.proofs.version.Version.fullest_level.Goals as goal
 
 pub loop-level-preserved : goal.loop-level-preserved

@@ -1,7 +1,7 @@
 use Rattle.std.proofs.Common.{◌≡◌, ◌-◌, ◌<◌, fold, take, if◌then◌else◌}
 use Rattle.leveldb_version.specs.Versions.Version.{new_files_of}
-use Rattle.leveldb_version.specs.Compactions.Scores.{is_fuller}
-use Rattle.leveldb_version.proofs.Compactions.ScoresLemmas.{levels_from_one}
+use Rattle.leveldb_version.specs.Versions.Scores.{is_fuller}
+use Rattle.leveldb_version.proofs.Versions.ScoresLemmas.{levels_from_one}
 use Rattle.leveldb_version.proofs.version.Version.fullest_level.Given as goal
 
 abbrev pub invariant-loop-level : goal.invariant-loop-level

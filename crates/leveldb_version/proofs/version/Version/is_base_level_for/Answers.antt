@@ -4,10 +4,10 @@ use Rattle.std.specs.List.Sorted.{IsNonDecreasingBy, IsPartitionPoint}
 use Rattle.std.specs.Prelude.{is_some}
 use Rattle.std.specs.Option.{option_copied, option_map}
 use Rattle.leveldb_base.specs.declared.types.FileMetaData.{FileMetaData}
-use Rattle.leveldb_version.proofs.Compactions.BaseLevelLemmas.{last_in_order, search_tells, turned_round}
+use Rattle.leveldb_version.proofs.Versions.BaseLevelLemmas.{last_in_order, search_tells, turned_round}
 use Rattle.leveldb_version.proofs.Versions.SearchLemmas.{rest_is}
 use Rattle.leveldb_version.proofs.Versions.VersionLemmas.{levels_rise}
-use Rattle.leveldb_version.specs.Compactions.Compaction.{is_base_level_for}
+use Rattle.leveldb_version.specs.Versions.DeeperLevels.{is_base_level_for}
 use Rattle.leveldb_version.specs.Versions.Search.{AreDisjointLevels, TakesNextFile, files_left}
 use Rattle.leveldb_version.specs.Versions.Version.{AreInVersionOrder, VersionValue, new_files_of}
 use Rattle.leveldb_files.specs.Edits.Edit.{NewFile}

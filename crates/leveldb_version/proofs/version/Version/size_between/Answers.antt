@@ -1,6 +1,6 @@
 use Rattle.std.proofs.Common.{◌≡◌, ◌∙◌, ap, map}
 use Rattle.std.specs.List.{filter}
-use Rattle.leveldb_version.specs.Compactions.Compaction.{closed_range}
+use Rattle.leveldb_version.specs.Versions.DeeperLevels.{closed_range}
 use Rattle.leveldb_files.specs.Levels.Overlap.{UserRange, overlapping, overlaps}
 use Rattle.leveldb_files.specs.Levels.Summary.{files_of_level, total_size}
 use Rattle.leveldb_version.specs.Versions.Version.{VersionValue, new_files_of}

@@ -1,7 +1,0 @@
-use Rattle.std.proofs.Common.{map, take}
-use Rattle.leveldb_version.specs.Compactions.Picking.{DeletesFiles}
-use Rattle.leveldb_version.specs.Edits.VersionEdit.{new_file_of}
-use Rattle.leveldb_version.proofs.compaction.add_deletions.Given as goal
-
-abbrev pub invariant-loop-file : goal.invariant-loop-file
-invariant-loop-file l = DeletesFiles (map new_file_of (take l.file-index l.files)) l.initial.deleted.keys l.deleted.keys

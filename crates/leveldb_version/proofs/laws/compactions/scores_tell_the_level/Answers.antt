@@ -1,5 +1,0 @@
-use Rattle.leveldb_version.proofs.Compactions.ScoresLemmas.{scores_tell_level}
-use Rattle.leveldb_version.proofs.laws.compactions.scores_tell_the_level.Goals as goal
-
-pub returns : goal.returns
-returns c = scores_tell_level

@@ -1,5 +1,0 @@
-use Rattle.leveldb_version.proofs.Engines.SwitchLogLemmas.{tracked_after_new_log}
-use Rattle.leveldb_version.proofs.laws.writing.new_logs_are_tracked.Goals as goal
-
-pub returns : goal.returns
-returns g c = λ store. tracked_after_new_log store g.F.StoreFormat.cmp g.F.StoreFormat.is_table

@@ -1,0 +1,14 @@
+use Rattle.std.proofs.Common.{◌≡◌, fold, length, map}
+use Rattle.std.specs.Vec.Iter.{into_iter_items, into_iter_len}
+use Rattle.leveldb_version_set.specs.Sets.FilesInOrder.{ArePlaced, ordered_files}
+use Rattle.leveldb_version.specs.Edits.FullEdit.{files_with}
+use Rattle.leveldb_version.specs.Edits.VersionEdit.{new_file_of}
+use Rattle.leveldb_version_set.proofs.version_set.files_in_order.FilesInOrder.add_all.Given as goal
+
+abbrev pub invariant-loop-file : goal.invariant-loop-file
+invariant-loop-file l = record {
+  files : fold files_with (ordered_files l.self) (map new_file_of (into_iter_items l.file-iterator))
+      ≡ fold files_with (ordered_files l.initial.self) (map new_file_of (into_iter_items l.initial.file-iterator));
+  count : into_iter_len l.file-iterator ≡ length (into_iter_items l.file-iterator);
+  placed : ArePlaced l.self;
+}

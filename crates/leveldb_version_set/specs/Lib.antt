@@ -1,0 +1,4 @@
+pub mod Sets
+pub mod Compactions
+pub mod Engines
+pub mod Repairs
