@@ -6,10 +6,10 @@ use leveldb_base::cmp::DefaultCmp;
 use leveldb_base::error::Result;
 use leveldb_base::key_types::LookupKey;
 use leveldb_base::types::{FileMetaData, FileNum};
-use leveldb_version_set::compaction::Compaction;
-use leveldb_version_set::compaction::pick::{compact_range, needs_compaction, pick_compaction};
 use leveldb_version::version::{GetStats, Version};
 use leveldb_version::version_edit::{CompactionPointer, VersionEdit};
+use leveldb_version_set::compaction::Compaction;
+use leveldb_version_set::compaction::pick::{compact_range, needs_compaction, pick_compaction};
 use std::alloc::Global;
 use std::process::Abort;
 

@@ -7,9 +7,9 @@ use leveldb_base::cmp::DefaultCmp;
 use leveldb_base::error::Result;
 use leveldb_base::key_types::LookupKey;
 use leveldb_base::types::FileNum;
+use leveldb_version::version::GetStats;
 use leveldb_version_set::compaction::Compaction;
 use leveldb_version_set::compaction::pick::{compact_range, pick_compaction};
-use leveldb_version::version::GetStats;
 use std::alloc::Global;
 use std::process::Abort;
 

@@ -5,10 +5,10 @@ use super::choices::{NUMBER, Row, key_at, pointer, read_often, row, taken, versi
 use leveldb_base::cmp::DefaultCmp;
 use leveldb_base::error::Result;
 use leveldb_base::types::FileNum;
-use leveldb_version_set::compaction::Compaction;
-use leveldb_version_set::compaction::pick::{compact_range, needs_compaction, pick_compaction};
 use leveldb_version::version::Version;
 use leveldb_version::version_edit::CompactionPointer;
+use leveldb_version_set::compaction::Compaction;
+use leveldb_version_set::compaction::pick::{compact_range, needs_compaction, pick_compaction};
 use std::alloc::Global;
 use std::process::Abort;
 use support::Random;
