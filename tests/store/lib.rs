@@ -19,6 +19,8 @@ mod compactions_of_many;
 #[cfg(test)]
 mod damage;
 #[cfg(test)]
+mod empty_tables;
+#[cfg(test)]
 mod engines;
 #[cfg(test)]
 mod failed_openings;

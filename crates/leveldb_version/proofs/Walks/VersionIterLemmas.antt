@@ -1,5 +1,5 @@
 -- What the steps of a walk over the tables of files come to, and its moves.
-use Rattle.std.specs.Prelude.{IfErr, IfOk, IsErrAnd, IsSome, OnErr, OnOk, is_some, slice_get}
+use Rattle.std.specs.Prelude.{IfErr, IfOk, IsErrAnd, IsSome, IsTrue, OnErr, OnOk, is_some, slice_get}
 use Rattle.std.proofs.Common.{◌≡◌, ◌≢◌, ◌⊎◌, inl, inr, ⊎_elim, ℕ, zero, suc, ◌+◌, ◌-◌, ◌<◌, ◌≤◌, ◌^◌, Bool, true, false, List, [], ◌∷◌, ◌++◌, length, map, Option, None, Some, Result, Ok, Err, refl, sym, ◌∙◌, ap, subst, arith}
 use Rattle.std.proofs.lemmas.Bool.{cases_lt}
 use Rattle.std.proofs.lemmas.List.{length-append, length-map}
@@ -421,18 +421,20 @@ module _ {E C FP K F : Type 0} (order : CmpGhosts (InternalKeyCmp C)) (env : Env
           → IsLedTo {C = InternalKeyCmp C} to (order.cmp (record { 0 = world.1.cmp })) (table_in tables turned.at).parts None position → OnOk r (IsAtInTable order (order.cmp (record { 0 = world.1.cmp })) (table_in tables turned.at).parts new.core position)
       ok_turned meaning tables there in_tables position led = step.ok meaning tables (there_turned meaning tables there) in_tables position (led_any to ends (order.cmp (record { 0 = world.1.cmp })) (table_in tables turned.at).parts turned.core position led)
 
-      pub to_file_made : MovesToFile order env cmp filters codings turned.at to world old r later new
-      to_file_made = record {
+      pub to_file_made : IfOk r IsTrue → MovesToFile order env cmp filters codings turned.at to world old r later new
+      to_file_made made = record {
         moves = record { stays = stays_turned; cause = fails_turned r step.moves.cause; err = step.moves.err };
         there = step.there;
         past = λ past. absurd (omega (arith, past, within));
         at_file = λ inside. step.at;
+        some = λ inside. made;
         ok = ok_turned;
       }
 
       pub to_file_refused : {status : Status} → r ≡ Err status → (result : Result Bool Status) → IsErrAnd result (λ other. other ≡ status) → MovesToFile order env cmp filters codings turned.at to world old result later new
       to_file_refused r_is (Ok there) refused = absurd refused
-      to_file_refused r_is (Err other) refused = subst (λ (q : Result Bool Status). MovesToFile order env cmp filters codings turned.at to world old q later new) (r_is ∙ ap Err (sym refused)) to_file_made
+      to_file_refused r_is (Err other) refused = subst (λ (q : Result Bool Status). MovesToFile order env cmp filters codings turned.at to world old q later new) (r_is ∙ ap Err (sym refused))
+          (to_file_made (subst (λ (q : Result Bool Status). IfOk q IsTrue) (sym r_is) tt))
 
       -- a table without a pair is damaged
       pub to_file_empty : r ≡ Ok false → (result : Result Bool Status) → IsErrAnd result (λ status. status.code ≡ Corruption) → MovesToFile order env cmp filters codings turned.at to world old result later new
@@ -449,6 +451,7 @@ module _ {E C FP K F : Type 0} (order : CmpGhosts (InternalKeyCmp C)) (env : Env
         there = tt;
         past = λ past. absurd (omega (arith, past, within));
         at_file = λ inside. step.at;
+        some = λ inside. tt;
         ok = λ meaning tables there in_tables position led. tt;
       }
         where
@@ -478,6 +481,7 @@ module _ {E C FP K F : Type 0} (order : CmpGhosts (InternalKeyCmp C)) (env : Env
     there = sym (ap is_some (left_position old.core new.core left));
     past = λ more. left_position old.core new.core left;
     at_file = λ inside. absurd (omega (arith, inside, past));
+    some = λ inside. absurd (omega (arith, inside, past));
     ok = λ meaning tables there within position led. absurd (let long = each_long (λ file table. ((new_file_of file).number < 2 ^ 64) × ((new_file_of file).largest ≡ table.largest)
         × IsTableAt (cmp.cmp world.1.cmp) meaning (files_at env world.0) (path_at world.1.cache.now (new_file_of file).number) table × ((new_file_of file).number < world.1.below)) old.files.now tables there.each in omega (arith, long, past, within));
   }

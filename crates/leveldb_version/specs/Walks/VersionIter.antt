@@ -1,6 +1,6 @@
 -- Walks over the tables of files, one after the other: which list such a walk is over, and where it
 -- is.
-use Rattle.std.specs.Prelude.{◌≡◌, ◌⊎◌, ◌-◌, ◌<◌, ◌≤◌, ◌^◌, ℕ, Bool, Result, IfOk, IfErr, IsSome, OnOk, OnErr, is_some, List, [], Option, None, Some, length, map, slice_index_or}
+use Rattle.std.specs.Prelude.{◌≡◌, ◌⊎◌, ◌-◌, ◌<◌, ◌≤◌, ◌^◌, ℕ, Bool, Result, IfOk, IfErr, IsSome, IsTrue, OnOk, OnErr, is_some, List, [], Option, None, Some, length, map, slice_index_or}
 use Rattle.std.specs.Ordering.{is_lt}
 use Rattle.std.specs.declared.cmp.Ordering.{Ordering}
 use Rattle.leveldb_base.specs.Error.{IsOutOfMemory}
@@ -169,6 +169,8 @@ module _ {E C FP K F : Type 0} (order : CmpGhosts (InternalKeyCmp C)) (env : Env
     pub there : IfOk result (λ there. there ≡ is_some (core_position new.core))
     pub past : length old.files.now ≤ at → core_position new.core ≡ None
     pub at_file : at < length old.files.now → new.at ≡ at
+    -- a file's table has a pair, or the move fails: only past the last file it returns `false`
+    pub some : at < length old.files.now → IfOk result IsTrue
     pub ok : (meaning : Meaning) (tables : List FileTable)
         → AreTablesThere meaning old_world old tables → at < length tables
         → let keys = order.cmp (record { 0 = old_world.1.cmp }) in

@@ -1,3 +1,4 @@
+use Rattle.std.specs.Prelude.{IfOk, IsTrue}
 use Rattle.std.proofs.Common.{◌≡◌, ◌<◌, ◌∙◌, Err, Ok, ap, length, refl, subst, sym, true}
 use Rattle.leveldb_base.specs.contracts.cmp.internal.InternalKeyCmpCmp.TheImpl.{ghosts as key_order}
 use Rattle.leveldb_version.specs.Walks.VersionIter.{MovesToFile, KeepsTableOrNone}
@@ -29,7 +30,8 @@ returns-then-branch g c =
     let within : turned.at < length old.files.now = subst (λ n. n < length old.files.now) (sym at) c.if-at-self.false in
     subst (λ n. MovesToFile keys g.E.Env g.C.Cmp g.FP.FilterPolicy g.K.Compressors.codings n c.args.to (c.args.env.now, c.args.tables.now) old (Ok true) (c.step.new.env, c.step.new.tables) c.step.new.self) at
     (subst (λ r. MovesToFile keys g.E.Env g.C.Cmp g.FP.FilterPolicy g.K.Compressors.codings turned.at c.args.to (c.args.env.now, c.args.tables.now) old r (c.step.new.env, c.step.new.tables) c.step.new.self) (c.in_ok-step.was ∙ ap Ok c.if-branch.true)
-    (to_file_made _ g.E.Env g.C.Cmp g.FP.FilterPolicy g.K.Compressors.codings (c.args.env.now, c.args.tables.now) old turned turns (ap (λ f. f.now) c.turn_to.ensures.files) c.args.to c.requires c.step.result (c.step.new.env, c.step.new.tables) c.step.new.self c.step.ensures within))
+    (to_file_made _ g.E.Env g.C.Cmp g.FP.FilterPolicy g.K.Compressors.codings (c.args.env.now, c.args.tables.now) old turned turns (ap (λ f. f.now) c.turn_to.ensures.files) c.args.to c.requires c.step.result (c.step.new.env, c.step.new.tables) c.step.new.self c.step.ensures within
+    (subst (λ r. IfOk r IsTrue) (sym (c.in_ok-step.was ∙ ap Ok c.if-branch.true)) refl)))
 
 pub returns : goal.returns
 returns g c =
