@@ -21,3 +21,4 @@ pub mod CallsLemmas
 pub mod WriteCallLemmas
 pub mod UnknownLemmas
 pub mod RowLemmas
+pub mod CallLawsLemmas

@@ -7,3 +7,4 @@ pub mod Engine
 pub mod Rows
 pub mod Room
 pub mod Calls
+pub mod CallLaws

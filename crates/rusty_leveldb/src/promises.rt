@@ -1,6 +1,7 @@
 //! The laws of the store's machine, as contracts of functions that do nothing.
 
 ghost use Rattle.rusty_leveldb.specs.Compactions.CompactionLaws.{AreViewsInTables};
+ghost use Rattle.rusty_leveldb.specs.Engines.CallLaws.{RefusalsAreExplained};
 ghost use Rattle.rusty_leveldb.specs.Walks.Iterator.{ScanGivesPairs};
 ghost use Rattle.rusty_leveldb.specs.Walks.IteratorLaws.{PrevUndoesNext};
 ghost use Rattle.rusty_leveldb.specs.Machines.Laws.{OneReading, NothingStands, CrashBetween, CrashInside, CrashSince, RefusalHasCause, StepFits, CrashFits, CrashInsideFits, LivesFit, DurableStays, SyncedStays, EachAnswerParts, HistoryIsAsked, HistoryIsPlaced, MoreIsAsked, LongItemMakesLongBatch, SyncedIsRead, ViewsStay, HeldStays, SnapshotIsRead, ForwardWalkGivesView, PrevUndoesAdvance, SyncedCanBeFound};
@@ -116,9 +117,15 @@ pub fn crashes_since_entry_leave_a_prefix<E: Env>()
 {}
 
 /// A refused request has one of the causes, each with its condition, or the store was closed, or
-/// it broke earlier.
-pub fn refusals_have_causes()
-    ensures { RefusalHasCause }
+/// it broke earlier. What was too large no state of the machine shows: where that is the cause of a
+/// refused write, compaction, or opening with these options, the call's own record has the reason.
+pub fn refusals_have_causes<E: Env, C: UserCmp + Copy, FP: FilterPolicy + Copy>(
+    options: &Options<C, FP>,
+)
+    ensures machine { RefusalHasCause }
+    ensures calls { RefusalsAreExplained E.Env (choices_of C.Cmp FP.FilterPolicy
+        ⟦<InternalKeyCmp<C> as Cmp>⟧ ⟦<InternalFilterPolicy<FP> as FilterPolicy>⟧
+        ⟦<CompressorList as Compressors>⟧.codings) options.now }
 {}
 
 /// A batch is too long where a key or a value of one of its items is: so a write of such an item is
