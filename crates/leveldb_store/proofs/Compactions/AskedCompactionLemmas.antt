@@ -147,6 +147,7 @@ module _ {C : Type 0} {cmp : List ℕ → List ℕ → Ordering} {by : C} (old n
     edit = None;
     logs = subst (λ (v : OpenStoreValue C). GivesNumbers old.set v.set) (sym same)
         (GivesNumbers-refl old.set);
+    takes = tt;
     by_score = λ ordered level asks.
         let file = asking_in_level cmp old.set.full.pointers old.current level
         (scores_alike old.set.full.added (new_files_of old.current) current.same_files level asks) in
@@ -162,6 +163,20 @@ module _ {C : Type 0} {cmp : List ℕ → List ℕ → Ordering} {by : C} (old n
       subst (GivesNumbers (set_appended logged.manifest logged.given logged.edit)) (sym logged.set)
           (GivesNumbers-refl (set_appended logged.manifest logged.given logged.edit)),
     );
+    takes =
+        let one = asked.each.may.some in (
+          it.level,
+          record {
+            taken = (
+              level_file one.0,
+              (logged.replaces.deleted (level_file one.0)).1 (one.0, one.1, refl),
+              one.2,
+            );
+            none_added = λ added there same.
+                let at : added.level ≡ it.level + 1 =
+                (logged.replaces.added.within added there).0 in omega (arith, at, same);
+          },
+        );
     by_score = λ ordered level asks.
         let file = asking_in_level cmp old.set.full.pointers old.current level
         (scores_alike old.set.full.added (new_files_of old.current) current.same_files level asks) in

@@ -28,8 +28,8 @@ use Rattle.rusty_leveldb.specs.Engines.Engine.{formats_of, engine_options, table
 use Rattle.rusty_leveldb.specs.Engines.EngineValue.{FollowsStore}
 
 -- What was logged: tables of memtables, which take no file away, and then at most one edit of a
--- compaction. Where the score of a level asks for a compaction in the files that those leave, there
--- is one, which takes a file from this level and adds none to it.
+-- compaction, which takes one from a level. Where the score of a level asks for a compaction in the
+-- files that those leave, there is one, which takes a file from this level and adds none to it.
 pub record LogsRoom (cmp : List ℕ → List ℕ → Ordering) (old new : VersionSetValue) : Type 0 where
   pub tables_made : VersionSetValue
   pub tables : LogsTableEdits 2 old tables_made
