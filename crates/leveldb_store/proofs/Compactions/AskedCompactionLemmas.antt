@@ -1,7 +1,7 @@
 -- The compaction for which an open store asks, and what its edit takes from the level whose score
 -- asks for it.
 use Rattle.std.proofs.Common.{◌≡◌, ◌≢◌, ◌∙◌, ◌⊎◌, ◌<◌, ◌≤◌, ◌*◌, ◌+◌, ◌^◌, ◌-◌, ◌==◌, zero, suc, ℕ, Bool, true, false, cond, List, [], ◌∷◌, Option, None, Some, Result, Ok, Err, ap, arith, inl, inr, min, refl, subst, sym}
-use Rattle.std.specs.Prelude.{Contains, IfSome, IsPermutation, OnErr, OnOk, find}
+use Rattle.std.specs.Prelude.{◌||◌, Contains, IfErr, IfSome, IsPermutation, IsTrue, OnErr, OnOk, find, is_some}
 use Rattle.std.specs.Option.{option_map_or, option_or}
 use Rattle.std.specs.Ordering.{is_gt}
 use Rattle.std.proofs.lemmas.Bool.{eqb-true}
@@ -13,6 +13,7 @@ use Rattle.std.specs.declared.cmp.Ordering.{Ordering}
 use Rattle.std.specs.declared.cmp.Ordering.TheVariants.{Less}
 use Rattle.leveldb_base.proofs.EntriesLemmas.{in_map}
 use Rattle.leveldb_base.proofs.HistoryLemmas.{in_front, in_rest}
+use Rattle.leveldb_base.specs.Error.{IsOutOfMemory}
 use Rattle.leveldb_base.specs.KeyTypes.{internal_cmp, user_part}
 use Rattle.leveldb_base.specs.declared.error.Status.{Status}
 use Rattle.leveldb_env.specs.Env.{Files}
@@ -25,7 +26,7 @@ use Rattle.leveldb_files.specs.Stores.Format.{IsTableOf, Meaning}
 use Rattle.leveldb_version_set.specs.Compactions.Inputs.{AreOrdered}
 use Rattle.leveldb_files.specs.Levels.Levels.{LiveTable}
 use Rattle.leveldb_version_set.specs.Sets.LogEdit.{set_appended}
-use Rattle.leveldb_version_set.specs.Compactions.Picking.{CompactionValue, IsAskedFor, IsCompactionOf, asking_file, file_after, file_by_reads, used_pointer}
+use Rattle.leveldb_version_set.specs.Compactions.Picking.{CompactionValue, IsAskedFor, IsCompactionOf, asking_file, file_after, file_by_reads, needs_compaction, used_pointer}
 use Rattle.leveldb_version.specs.Versions.Scores.{level_by_score, level_limit, level_load}
 use Rattle.leveldb_files.specs.Stores.Store.{HasTable}
 use Rattle.leveldb_files.specs.Levels.Summary.{files_of_level}
@@ -120,6 +121,21 @@ module _ {C : Type 0} (cmp : List ℕ → List ℕ → Ordering) (pointers : Lis
             (kept_passes (λ (file : NewFile). file.level == level) files after.0 after.2).1,
       )
 
+-- a version asks for a compaction, where a file of it does
+file_asks : {C : Type 0} (cmp : List ℕ → List ℕ → Ordering) (pointers : List Pointer)
+    (version : VersionValue C) → (asking_file cmp pointers version ≡ None → ⊥)
+    → IsTrue (needs_compaction version)
+file_asks cmp pointers version some =
+    by (λ level. file_after cmp (used_pointer pointers level)
+    (files_of_level level (new_files_of version))) (level_by_score (new_files_of version))
+    (file_by_reads version) some
+  where
+    by : (of : ℕ → Option NewFile) (level : Option ℕ) (file : Option NewFile)
+        → (option_map_or of level file ≡ None → ⊥) → IsTrue (is_some level || is_some file)
+    by of (Some level) file some = refl
+    by of None (Some file) some = refl
+    by of None None some = absurd (some refl)
+
 -- ---- what is logged
 
 -- the one that is picked is logged
@@ -193,20 +209,34 @@ module _ {C : Type 0} {cmp : List ℕ → List ℕ → Ordering} {by : C} (old n
         };
   }
 
+  -- where the one that is picked fails, the version asks for it still
+  asks_still : (max_file_size : ℕ) (picked : Option (CompactionValue C))
+      (result : Result (Unit {0}) Status)
+      → IsAskedFor cmp old.set.full.pointers old.current max_file_size picked
+      → (picked ≡ None → result ≡ Ok tt) → OnErr result (new.current ≡ old.current)
+      → IfErr result (λ e. IsOutOfMemory e ⊎ IsTrue (needs_compaction new.current))
+  asks_still max_file_size picked (Ok unit) asked well version = tt
+  asks_still max_file_size picked (Err status) asked well version = inr
+      (subst (λ (v : VersionValue C). IsTrue (needs_compaction v)) (sym version)
+      (file_asks cmp old.set.full.pointers old.current
+      (λ none. let never : Err status ≡ Ok tt = well (asked.none none) in cc)))
+
   -- what the one leaves that is asked for
   pub compacts_if_asked : (max_file_size : ℕ) (picked : Option (CompactionValue C))
       (result : Result (Unit {0}) Status)
       → IsAskedFor cmp old.set.full.pointers old.current max_file_size picked
       → OnOk result (IfSome picked (λ it. LogsCompaction cmp it old new))
-      → (picked ≡ None → new ≡ old) → OnErr result (new.set.full ≡ old.set.full)
+      → (picked ≡ None → (result ≡ Ok tt) × (new ≡ old)) → OnErr result (new.set.full ≡ old.set.full)
+      → OnErr result (new.current ≡ old.current)
       → CompactsIfAsked cmp max_file_size old result new
-  compacts_if_asked max_file_size picked result asked logged none err = record {
+  compacts_if_asked max_file_size picked result asked logged none err version = record {
     logged = IfOk-weaker result _ _ (λ unit logs. (picked, asked, logs))
-        (logs_picked cmp old new picked result logged none);
+        (logs_picked cmp old new picked result logged (λ is. (none is).1));
     by_score = IfOk-weaker result _ _
         (λ unit logs. logged_by_score max_file_size picked asked logs)
-        (logs_picked cmp old new picked result logged none);
+        (logs_picked cmp old new picked result logged (λ is. (none is).1));
     err = err;
+    asks = asks_still max_file_size picked result asked (λ is. (none is).0) version;
   }
 
 -- the one that is picked may be done

@@ -9,13 +9,13 @@ use Rattle.leveldb_env.proofs.EnvLemmas.{SameBut-refl}
 use Rattle.leveldb_env.specs.Env.{AreBytes, SameBut}
 use Rattle.leveldb_env.specs.declared.env.Env.{Ghosts}
 use Rattle.leveldb_mem.specs.Log.Writer.{WriterState, after_frame}
-use Rattle.leveldb_mem.specs.MemTable.{FailsToPrepare, IsUnion, Kept, bytes_in}
+use Rattle.leveldb_mem.specs.MemTable.{IsUnion, Kept}
 use Rattle.leveldb_mem.specs.WriteBatch.{Batch, BatchOf, batch_bytes, batch_of}
 use Rattle.leveldb_store.proofs.Writing.BatchHistoryLemmas.{after_batch, batch_added, pending_leaves, room_leaves}
 use Rattle.leveldb_store.proofs.Keeping.TableKeepsLemmas.{appending_and_syncing}
 use Rattle.leveldb_store.specs.Keeping.OpenStore.{IsUnbroken, OpenStoreValue}
-use Rattle.leveldb_store.specs.Writing.Write.{AreNumbersUsedUp, CanBeInserted, HasNumbers, InsertsBatch, IsLogLost, LogsText, PreparesBatch, open_log_path, with_mem, with_writer}
-use Rattle.leveldb_store.specs.Writing.WriteBatch.{FailsToWriteBatch, WritesBatch, next_batch}
+use Rattle.leveldb_store.specs.Writing.Write.{CanBeInserted, HasNumbers, InsertsBatch, IsLogLost, LogsText, PreparesBatch, open_log_path, with_mem, with_writer}
+use Rattle.leveldb_store.specs.Writing.WriteBatch.{FailsToWriteBatch, IsNotBegun, WritesBatch, next_batch}
 
 module _ {E F C : Type 0} (env : Ghosts E F) (cmp : List ℕ → List ℕ → Ordering)
     (old : OpenStoreValue C) (from : E) (items : List Item) (sync : Bool) (mem : Kept)
@@ -29,10 +29,7 @@ module _ {E F C : Type 0} (env : Ghosts E F) (cmp : List ℕ → List ℕ → Or
 
   -- ---- no call was made
 
-  pub writes_nothing : (status : Status)
-      → ((AreNumbersUsedUp old.set.last_sequence (length items) status
-      ⊎ FailsToPrepare old.mem (length items) (bytes_in items) status)
-      ⊎ IsLogLost env old from from status)
+  pub writes_nothing : (status : Status) → IsNotBegun old items status
       → Writes (Err status) roomy from
   writes_nothing status why = record {
     adds = tt;
@@ -49,12 +46,12 @@ module _ {E F C : Type 0} (env : Ghosts E F) (cmp : List ℕ → List ℕ → Or
     others = λ modelled. SameBut-refl (open_log_path old) (env.observed from).disk.files;
     locks = λ modelled. refl;
     usable = tt;
-    breaks = inl refl;
+    breaks = inl (why, refl);
     cause = record {
       later = omega arith;
       ok = tt;
       uncounted = λ excused. refl;
-      cause = inl (⊎_elim (λ unprepared. inl (unprepared, refl)) (λ lost. inr lost) why);
+      cause = inl (inl (why, refl));
     };
   }
 
@@ -83,7 +80,7 @@ module _ {E F C : Type 0} (env : Ghosts E F) (cmp : List ℕ → List ℕ → Or
           (λ (stays : IsOutOfMemory status × (then ≡ roomy) × (to ≡ from)).
           subst (λ v. Writes (Err status) v to) (sym stays.1)
           (subst (Writes (Err status) roomy) (sym stays.2)
-          (writes_nothing status (inr (inl (inl stays.0))))))
+          (writes_nothing status (inr (inr stays.0)))))
           (λ (breaks : (then ≡ with_writer roomy then.log.writer)
           × (then.log.writer.broken ≡ true)).
           subst (λ v. Writes (Err status) v to) (sym breaks.0)
@@ -150,12 +147,10 @@ module _ {E F C : Type 0} (env : Ghosts E F) (cmp : List ℕ → List ℕ → Or
 
 module _ {E F C : Type 0} (env : Ghosts E F) (cmp : List ℕ → List ℕ → Ordering)
     (old : OpenStoreValue C) (from : E) (batch : Batch) (sync : Bool) where
-  -- no memory was taken for the batch, or none for the log's path
+  -- no memory was taken for the batch
   pub wrote_nothing : (answer : Result (Unit {0}) Status) (value : OpenStoreValue C)
       (prepared : Batch) → PreparesBatch old batch answer value prepared → (status : Status)
-      → ((AreNumbersUsedUp old.set.last_sequence (length batch.items) status
-      ⊎ FailsToPrepare old.mem (length batch.items) (bytes_in batch.items) status)
-      ⊎ IsLogLost env old from from status)
+      → IsNotBegun old batch.items status
       → WritesBatch env cmp old from batch.items sync (Err status) value from
   wrote_nothing answer value prepared prepares status why = subst
       (λ v. WritesBatch env cmp old from batch.items sync (Err status) v from) (sym prepares.rest)

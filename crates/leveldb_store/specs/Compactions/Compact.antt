@@ -1,6 +1,6 @@
 -- Compactions of an open store: what one of them leaves, what those of a range leave, and why they
 -- fail.
-use Rattle.std.specs.Prelude.{◌≢◌, ◌≡◌, ◌≤◌, ◌<◌, ◌⊎◌, ◌↔◌, ◌+◌, ◌++◌, ◌^◌, ◌∷◌, [], false, if◌then◌else◌, ℕ, List, All, Contains, Option, None, Some, Result, IfOk, OnErr, OnOk, IsTrue, fold, map, Bool}
+use Rattle.std.specs.Prelude.{◌≢◌, ◌≡◌, ◌≤◌, ◌<◌, ◌⊎◌, ◌↔◌, ◌+◌, ◌++◌, ◌^◌, ◌∷◌, [], false, if◌then◌else◌, ℕ, List, All, Contains, Option, None, Some, Result, IfErr, IfOk, OnErr, OnOk, IsTrue, fold, map, Bool}
 use Rattle.std.specs.declared.cmp.Ordering.{Ordering}
 use Rattle.std.specs.declared.cmp.Ordering.TheVariants.{Less}
 use Rattle.leveldb_base.specs.Entries.{entry_of_pair}
@@ -25,7 +25,7 @@ use Rattle.leveldb_version_set.specs.Sets.LogEdit.{set_appended}
 use Rattle.leveldb_version_set.specs.Engines.Opening.{FitsEdit}
 use Rattle.leveldb_files.specs.Levels.Overlap.{UserRange, is_overlapped}
 use Rattle.leveldb_files.specs.Stores.Paths.{table_path}
-use Rattle.leveldb_version_set.specs.Compactions.Picking.{CompactionValue, IsAskedFor}
+use Rattle.leveldb_version_set.specs.Compactions.Picking.{CompactionValue, IsAskedFor, needs_compaction}
 use Rattle.leveldb_files.specs.Levels.Summary.{files_of_level}
 use Rattle.leveldb_version.specs.Tables.TableCache.{TableOptions, files_at}
 use Rattle.leveldb_version.specs.Versions.Version.{new_files_of}
@@ -134,6 +134,8 @@ pub record CompactsIfAsked {C : Type 0} (cmp : List ℕ → List ℕ → Orderin
   pub by_score : OnOk result (LogsByScore cmp old.set new.set)
   -- Err: the files are those that they were
   pub err : OnErr result (new.set.full ≡ old.set.full)
+  -- and memory was out, or the version asks for that compaction still
+  pub asks : IfErr result (λ e. IsOutOfMemory e ⊎ IsTrue (needs_compaction new.current))
 
 -- ---- one compaction
 

@@ -24,8 +24,9 @@ pub record CompactsPicked {E F C FP : Type 0} (env : Ghosts E F)
   pub removes : OnOk result (IfSome picked (λ it. EndsByRemoval env new to))
   -- where none was picked, nothing is done
   pub none : picked ≡ None → (result ≡ Ok tt) × (new ≡ old) × (to ≡ from) × (now ≡ tables)
-  -- Err: the live files are those that they were
+  -- Err: the live files are those that they were, and the version is
   pub err : OnErr result (new.set.full ≡ old.set.full)
+  pub version : OnErr result (new.current ≡ old.current)
 
 -- Whatever the files are, one compaction at most loses no table but those that it took. A call that
 -- fails loses no byte, and breaks the store only for a cause.

@@ -1,5 +1,5 @@
 -- What writing a batch to an open store returns and leaves of memory and files, and why it fails.
-use Rattle.std.specs.Prelude.{true, ◌≡◌, ◌+◌, ◌⊎◌, ℕ, Bool, List, [], ◌∷◌, ◌++◌, length, Option, None, Some, Result, OnErr, OnOk, IsTrue}
+use Rattle.std.specs.Prelude.{true, ◌≡◌, ◌+◌, ◌⊎◌, ℕ, Bool, List, [], ◌∷◌, ◌++◌, length, Option, None, Some, Result, IfErr, OnErr, OnOk, IsTrue}
 use Rattle.std.specs.declared.cmp.Ordering.{Ordering}
 use Rattle.leveldb_base.specs.History.{Entry, History, Item, count_of, placed, with_batch}
 use Rattle.leveldb_base.specs.declared.error.Status.{Status}
@@ -17,6 +17,12 @@ use Rattle.leveldb_store.specs.Keeping.Written.{IsWritten, KeepsShown}
 -- the batch that these items make after a store's last entry
 abbrev pub next_batch : {C : Type 0} → OpenStoreValue C → List Item → List Entry
 next_batch value items = placed (value.set.last_sequence + 1) items
+
+-- why no call of the device is made for a batch of these items: the numbers are used up, the
+-- memtable has no room, or memory is out
+abbrev pub IsNotBegun : {C : Type 0} → OpenStoreValue C → List Item → Status → Type 0
+IsNotBegun value items status = AreNumbersUsedUp value.set.last_sequence (length items) status
+    ⊎ FailsToPrepare value.mem (length items) (bytes_in items) status
 
 -- ---- histories
 
@@ -97,13 +103,11 @@ module _ {E F C : Type 0} (env : Ghosts E F) (cmp : List ℕ → List ℕ → Or
         (env.observed to)))
 
   module _ (items : List Item) where
-    -- Why a batch isn't written, where the device didn't fail: the numbers are used up or the
-    -- memtable has no room, and no call was made; out of memory; or the log is lost.
+    -- Why a batch isn't written, where the device didn't fail: no call was made for it; out of
+    -- memory; or the log is lost.
     abbrev pub FailsToWriteBatch : E → Status → Type 0
     FailsToWriteBatch to status =
-        ((AreNumbersUsedUp old.set.last_sequence (length items) status
-        ⊎ FailsToPrepare old.mem (length items) (bytes_in items) status) × (to ≡ from))
-        ⊎ IsLogLost env old from to status
+        (IsNotBegun old items status × (to ≡ from)) ⊎ IsLogLost env old from to status
 
     -- A batch of these items is written to a store that isn't broken, and made durable if that is
     -- asked for.
@@ -135,6 +139,7 @@ module _ {E F C : Type 0} (env : Ghosts E F) (cmp : List ℕ → List ℕ → Or
           (env.observed from).disk.files (env.observed to).disk.files
       pub locks : SameLocks env.models_disk (env.observed from) (env.observed to)
       pub usable : OnOk result (IsUnbroken new)
-      -- after an Err either no call was made, or the log is broken
-      pub breaks : OnErr result ((to ≡ from) ⊎ (new.log.writer.broken ≡ true))
+      -- after an Err either no call was made, for a cause, or the log is broken
+      pub breaks : IfErr result (λ e. (IsNotBegun old items e × (to ≡ from))
+          ⊎ (new.log.writer.broken ≡ true))
       pub cause : HasCause (FailsToWriteBatch to) (env.failures from) (env.failures to) result

@@ -1,14 +1,16 @@
 -- Room in the memtable of a store, and the compaction after it: both as one step, which may drop
 -- entries that are shadowed at the smallest number that is held.
-use Rattle.std.specs.Prelude.{OnOk, Result}
-use Rattle.std.proofs.Common.{◌≡◌, inl, ◌∙◌, ℕ, List, [], Ok, Err, None, ap, refl, subst}
+use Rattle.std.specs.Prelude.{◌≢◌, IfErr, IsTrue, OnOk, Result}
+use Rattle.std.proofs.Common.{◌≡◌, ◌⊎◌, ⊎_elim, inl, inr, ◌∙◌, ℕ, List, [], Ok, Err, None, ap, refl, subst}
 use Rattle.std.specs.declared.cmp.Ordering.{Ordering}
+use Rattle.leveldb_base.specs.Error.{IsOutOfMemory}
 use Rattle.leveldb_base.specs.declared.cmp.Cmp.{Ghosts as CmpGhosts}
 use Rattle.leveldb_base.specs.declared.cmp.internal.InternalKeyCmp.{InternalKeyCmp}
 use Rattle.leveldb_base.specs.declared.error.Status.{Status}
 use Rattle.leveldb_env.specs.declared.env.Env.{Ghosts}
 use Rattle.leveldb_env.specs.declared.filter.FilterPolicy.{Ghosts as FilterGhosts}
 use Rattle.leveldb_files.specs.Stores.Format.{Agrees}
+use Rattle.leveldb_version_set.specs.Compactions.Picking.{needs_compaction}
 use Rattle.leveldb_version.specs.Tables.TableCache.{TableOptions}
 use Rattle.leveldb_version.specs.declared.table_cache.TableCache.{TableCache}
 use Rattle.leveldb_store.proofs.Compactions.CompactedLemmas.{compacted_then, merge_between, nothing_compacted}
@@ -44,6 +46,7 @@ module _ {E F C FP D P : Type 0} (order : CmpGhosts (InternalKeyCmp C)) (env : G
     not_full = λ also. (refl, refl, tt);
     empties = λ full. absurd (room full);
     logs = λ full. absurd (room full);
+    left = tt;
     entries = kept_as_they_are env by.format old from;
   }
 
@@ -78,6 +81,8 @@ module _ {E F C FP D P : Type 0} (order : CmpGhosts (InternalKeyCmp C)) (env : G
     not_full = made.not_full;
     empties = tt;
     logs = tt;
+    left = ⊎_elim (λ (full : IsFull limit new.mem). inl full)
+        (λ (waits : new.imm ≢ None). inr (inl waits)) made.err;
     entries = kept_in_tables env by.format old from new to made.rest.store
         (subst (λ f. KeepsEntries env f old from new to) format_is kept);
   }
@@ -94,12 +99,14 @@ module _ {E F C FP D P : Type 0} (order : CmpGhosts (InternalKeyCmp C)) (env : G
       (now : TableCache E C FP F)
       → CompactsTables order env by mid at between choices smallest result new to now
       → {other : List ℕ → List ℕ → Ordering} → other ≡ by.format.order
-      → OnOk result (LogsByScore other mid.set new.set) → (charged : OpenStoreValue C)
+      → OnOk result (LogsByScore other mid.set new.set)
+      → IfErr result (λ e. IsOutOfMemory e ⊎ IsTrue (needs_compaction new.current))
+      → (charged : OpenStoreValue C)
       → charged ≡ record mid { current = charged.current }
       → CompactsOnceAtMost other env.models_disk charged (env.observed at) new (env.observed to)
       → Makes result new to now
   room_compacted same full mid at between made sound closes none tables kept result new to now
-      compacts {other} also_same by_score charged only once = record {
+      compacts {other} also_same by_score asks charged only once = record {
         keeps =
             let first = room_keeps same (Ok tt) mid at between made sound closes none in
             compacted_then first result new to now
@@ -107,6 +114,7 @@ module _ {E F C FP D P : Type 0} (order : CmpGhosts (InternalKeyCmp C)) (env : G
         not_full = λ room. absurd (room full);
         empties = empties result;
         logs = logs result by_score;
+        left = unfinished result asks;
         entries = kept_or_compacted env by.format old from mid at made.rest.store
             (subst (λ f. KeepsEntries env f old from mid at) format_is kept) charged only new to
             compacts.memory compacts.keeps.rest.last
@@ -122,6 +130,15 @@ module _ {E F C FP D P : Type 0} (order : CmpGhosts (InternalKeyCmp C)) (env : G
         by_score = subst (λ c. LogsByScore c mid.set new.set) also_same by_score;
       }
       logs (Err status) by_score = tt
+
+      unfinished : (result : Result (Unit {0}) Status)
+          → IfErr result (λ e. IsOutOfMemory e ⊎ IsTrue (needs_compaction new.current))
+          → IfErr result (λ e. IsFull limit new.mem ⊎ (new.imm ≢ None)
+          ⊎ IsTrue (needs_compaction new.current) ⊎ IsOutOfMemory e)
+      unfinished (Ok unit) asks = tt
+      unfinished (Err status) asks = ⊎_elim
+          (λ (memory : IsOutOfMemory status). inr (inr (inr memory)))
+          (λ (asks_still : IsTrue (needs_compaction new.current)). inr (inr (inl asks_still))) asks
 
       empties : (result : Result (Unit {0}) Status)
           → OnOk result (IsFull limit old.mem → (new.mem.entries ≡ [])

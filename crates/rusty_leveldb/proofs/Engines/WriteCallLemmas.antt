@@ -1,6 +1,6 @@
 -- What a write to an engine does, put together: its step, what becomes of the engine, and why it
 -- fails.
-use Rattle.std.specs.Prelude.{OnErr, OnOk, Result}
+use Rattle.std.specs.Prelude.{IfErr, OnErr, OnOk, Result}
 use Rattle.std.proofs.Common.{◌≡◌, ◌<◌, ◌≤◌, ◌+◌, ◌⊎◌, ◌∙◌, ⊎_elim, inl, inr, ℕ, zero, suc, Bool, true, false, List, [], ◌∷◌, ◌++◌, length, refl, sym, ap, subst, arith, Some, Ok, Err}
 use Rattle.leveldb_base.specs.Error.{IsOutOfMemory}
 use Rattle.leveldb_base.specs.History.{Entry, Item, placed}
@@ -18,7 +18,7 @@ use Rattle.leveldb_store.specs.Compactions.Compact.{FailsToCompactRange}
 use Rattle.leveldb_store.specs.Writing.Room.{FailsFor, HasFailed, IsFull, ChangesLoggerOnly}
 use Rattle.leveldb_store.specs.Keeping.Written.{IsWritten}
 use Rattle.leveldb_store.specs.Keeping.SoundCall.{IsSoundCall, any_meaning}
-use Rattle.leveldb_store.specs.Writing.WriteBatch.{FailsToWriteBatch, WritesBatch, next_batch}
+use Rattle.leveldb_store.specs.Writing.WriteBatch.{FailsToWriteBatch, IsNotBegun, WritesBatch, next_batch}
 use Rattle.rusty_leveldb.specs.Engines.Boxes.{EngineOf, InternalOrder}
 use Rattle.rusty_leveldb.specs.Engines.EngineValue.{FollowsStore}
 use Rattle.rusty_leveldb.specs.Engines.Room.{EngineMakesRoom, LogsRoom, KeepsOrCompacts, entries_added}
@@ -161,7 +161,7 @@ module _ {E C FP F P : Type 0} {B : Boxed} {keys : InternalOrder C} {key_filters
             ),
           );
           entries = made.makes.entries;
-          breaks = inr (inr (Err status, after, made));
+          breaks = inr (inr (inl made));
           snapshots = ap (λ (e : EngineOf E C FP F B). e.snapshots) made.rest;
           options = room_tells env choices before from (Err status) after to made;
           rest = rest_roomless env before from opened choices items sync after to status made;
@@ -273,14 +273,14 @@ module _ {E C FP F P : Type 0} {B : Boxed} {keys : InternalOrder C} {key_filters
       -- then no call was made, or the log is broken
       batch_breaks : (result : Result (Unit {0}) Status)
           → WritesBatch env (formats (engine_options roomy)).order roomy.store mid items sync result value
-          to → OnErr result (IsBroken mode ⊎ AppendsNothing env choices before from to)
+          to → IfErr result (λ e. IsBroken mode ⊎ AppendsNothing env choices before from items e ended to)
       batch_breaks (Ok nothing) writes = tt
       batch_breaks (Err status) writes = ⊎_elim
-          (λ (still : to ≡ mid). inr (inr (
-            Ok tt,
+          (λ (unbegun : IsNotBegun roomy.store items status × (to ≡ mid)). inr (inr (inr (
             roomy,
-            subst (EngineMakesRoom env choices before from (Ok tt) roomy) (sym still) made,
-          )))
+            subst (EngineMakesRoom env choices before from (Ok tt) roomy) (sym unbegun.1) made,
+            unbegun.0,
+          ))))
           (λ (broke : value.log.writer.broken ≡ true). inl (follows_broken mode value follows broke))
           writes.breaks
 

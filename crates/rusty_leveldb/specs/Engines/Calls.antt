@@ -26,7 +26,7 @@ use Rattle.leveldb_store.specs.Writing.Room.{FailsFor, IsFull, ChangesLoggerOnly
 use Rattle.leveldb_store.specs.Keeping.SoundCall.{TimeGoesOn}
 use Rattle.leveldb_store.specs.Reading.View.{MoveFails, WalksStore}
 use Rattle.leveldb_store.specs.Writing.Write.{open_log_path, with_writer}
-use Rattle.leveldb_store.specs.Writing.WriteBatch.{next_batch}
+use Rattle.leveldb_store.specs.Writing.WriteBatch.{IsNotBegun, next_batch}
 use Rattle.leveldb_store.specs.Keeping.Written.{KeepsGivenTables}
 use Rattle.leveldb_files.specs.Stores.Batches.{Each}
 use Rattle.leveldb_files.specs.Stores.Format.{Format, IsTableFault, Meaning, Agrees}
@@ -159,10 +159,15 @@ module _ {E C FP F P : Type 0} {B : Boxed} {keys : InternalOrder C} {key_filters
   Takes row after to =
       FromEachState keys env (formats_of choices) (Some before) from (Some after) to row
 
-  -- no batch is appended: the environment is as it was, or as room in the memtable left it
-  abbrev pub AppendsNothing : E → Type 0
-  AppendsNothing to = (to ≡ from) ⊎ ((made : Result (Unit {0}) Status)
-      × (roomy : EngineOf E C FP F B) × EngineMakesRoom env choices before from made roomy to)
+  -- A write of these items fails so, and makes no call of the device for its batch: nothing is done;
+  -- or room in the memtable isn't made, and that is all; or it is made, and then memory is out, the
+  -- numbers are used up, or the memtable has too little room.
+  abbrev pub AppendsNothing : List Item → Status → EngineOf E C FP F B → E → Type 0
+  AppendsNothing items status after to = (to ≡ from)
+      ⊎ EngineMakesRoom env choices before from (Err status) after to
+      ⊎ ((roomy : EngineOf E C FP F B)
+      × EngineMakesRoom env choices before from (Ok tt) roomy to
+      × IsNotBegun roomy.store items status)
 
   -- A call that writes a batch of these items.
   pub record EngineWrites (items : List Item) (sync : Bool) (result : Result (Unit {0}) Status)
@@ -194,8 +199,8 @@ module _ {E C FP F P : Type 0} {B : Boxed} {keys : InternalOrder C} {key_filters
     -- is in memory, or in tables that were added, of which one compaction may have taken some
     pub entries : KeepsOrCompacts env (formats_of choices (engine_options before))
         (entries_added result (next_batch before.store items)) before.store from after.store to
-    -- an Err came before the batch was appended to the log, or broke the store
-    pub breaks : OnErr result (IsBroken after.mode ⊎ AppendsNothing to)
+    -- an Err came before any call for the batch, and for a cause, or broke the store
+    pub breaks : IfErr result (λ e. IsBroken after.mode ⊎ AppendsNothing items e after to)
     -- the same snapshots are held, and the options stay, but for the sink of their log
     pub snapshots : after.snapshots ≡ before.snapshots
     pub options : ChangesLoggerOnly (engine_options before) (engine_options after)

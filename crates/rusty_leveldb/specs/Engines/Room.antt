@@ -1,7 +1,8 @@
 -- What room in an engine's memtable leaves: a memtable that is full becomes a table, and then the
 -- compaction is done for which the store asks.
-use Rattle.std.specs.Prelude.{◌≡◌, ◌++◌, ℕ, List, [], None, Result, Ok, Err, OnErr, OnOk, is_some}
+use Rattle.std.specs.Prelude.{◌≡◌, ◌≢◌, ◌⊎◌, ◌++◌, ℕ, List, [], None, Result, Ok, Err, IfErr, IsTrue, OnErr, OnOk, is_some}
 use Rattle.std.specs.declared.cmp.Ordering.{Ordering}
+use Rattle.leveldb_base.specs.Error.{IsOutOfMemory}
 use Rattle.leveldb_base.specs.History.{Entry}
 use Rattle.leveldb_base.specs.declared.cmp.Cmp.{Ghosts as CmpGhosts}
 use Rattle.leveldb_base.specs.declared.cmp.internal.InternalKeyCmp.{InternalKeyCmp}
@@ -12,6 +13,7 @@ use Rattle.leveldb_env.specs.Options.{Boxed, OptionsOf}
 use Rattle.leveldb_iter.specs.Snapshot.{IsSmallestHeld}
 use Rattle.leveldb_files.specs.Stores.Format.{Format}
 use Rattle.leveldb_files.specs.Stores.Store.{SameEntries}
+use Rattle.leveldb_version_set.specs.Compactions.Picking.{needs_compaction}
 use Rattle.leveldb_version.specs.Tables.TableCache.{TableOptions}
 use Rattle.leveldb_version_set.specs.Sets.VersionSetValue.{VersionSetValue}
 use Rattle.leveldb_version.specs.declared.table_cache.TableCache.{TableCache}
@@ -79,6 +81,10 @@ pub record StoreMakesRoom {E F C FP D P : Type 0} (order : CmpGhosts (InternalKe
   pub empties : OnOk result (IsFull limit old.mem
       → (new.mem.entries ≡ []) × (new.mem.places ≡ 0) × (new.imm ≡ None))
   pub logs : OnOk result (IsFull limit old.mem → LogsRoom by.format.order old.set new.set)
+  -- Err: there is something to do still. The memtable is full, or there is an immutable one, or the
+  -- version asks for a compaction; but where memory was out.
+  pub left : IfErr result (λ e. IsFull limit new.mem ⊎ (new.imm ≢ None)
+      ⊎ IsTrue (needs_compaction new.current) ⊎ IsOutOfMemory e)
   -- Ok or Err, no entry is lost from memory but into tables
   pub entries : KeepsOrCompacts env by.format [] old from new to
 

@@ -19,7 +19,7 @@ returns-in_err-picked g c =
         keeps = failed_at_once _ g.E.Env _ c.args.self.now c.args.env.now c.args.tables.now _ _ _ (inl c.in_err-picked.ensures.memory);
         memory = refl;
       };
-      asked = record { logged = tt; by_score = tt; err = refl };
+      asked = record { logged = tt; by_score = tt; err = refl; asks = inl c.in_err-picked.ensures.memory };
       removes = tt;
       keeps = record {
         once = none_compacted _ g.E.Env.models_disk c.args.self.now (g.E.Env.observed c.args.env.now);
@@ -49,7 +49,7 @@ returns-clause-asked g c =
     let here = subst (λ (v : OpenStoreValue g.row.C.Denot). IsAskedFor (g.C.Cmp.cmp v.cmp) v.set.full.pointers v.current size picked) c.self.view_is asked in
     let current = subst (λ (v : OpenStoreValue g.row.C.Denot). IsCurrent (g.C.Cmp.cmp v.cmp) v.cmp v.set v.current) c.self.view_is (current_by g.C.Cmp c.self.invariant.8 c.in_ok-picked.ensures.current) in
     compacts_if_asked c.args.self.now c.compact_picked.new.self current size picked c.compact_picked.result
-    here done.logged (λ none. (done.none none).1) done.err
+    here done.logged (λ none. ((done.none none).0, (done.none none).1)) done.err done.version
 
 pub returns-clause-removes : goal.returns-clause-removes
 returns-clause-removes g c =

@@ -42,6 +42,7 @@ returns-in_default-clause-does g c = record {
   removes = rw c.in_default.is tt;
   none = λ is. (refl, refl, refl, refl);
   err = tt;
+  version = tt;
 }
 
 pub returns-in_err-compact-clause-does : goal.returns-in_err-compact-clause-does
@@ -53,6 +54,7 @@ returns-in_err-compact-clause-does g c =
       removes = tt;
       none = λ none. let never : Some c.in-Some.compaction ≡ None = sym c.in-Some.is ∙ none in absurd (cc never);
       err = search rules;
+      version = c.in_err-compact.ensures.compacts.err.1;
     })
 
 pub returns-clause-does : goal.returns-clause-does
@@ -66,6 +68,7 @@ returns-clause-does g c =
       removes = subst (λ picked. IfSome picked (λ it. EndsByRemoval g.E.Env new c.tidy_up.new.env)) (sym c.in-Some.is) (c.tidy_up.result, (c.compact.new.env, c.tidy_up.ensures.removes));
       none = λ none. let never : Some c.in-Some.compaction ≡ None = sym c.in-Some.is ∙ none in absurd (cc never);
       err = tt;
+      version = tt;
     }
 
 -- ---- what is lost

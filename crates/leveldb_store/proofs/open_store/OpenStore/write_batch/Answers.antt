@@ -1,4 +1,4 @@
-use Rattle.std.proofs.Common.{◌≡◌, ◌≤◌, List, length, ap, subst, inl, arith}
+use Rattle.std.proofs.Common.{◌≡◌, ◌≤◌, List, length, ap, subst, arith}
 use Rattle.leveldb_base.specs.History.{Item}
 use Rattle.leveldb_mem.proofs.WriteBatchLemmas.{length-batch_bytes}
 use Rattle.std.proofs.lemmas.Result.{err_from_is_err_and}
@@ -15,7 +15,7 @@ returns-in_err-prepare-clause-writes g c =
     let prepares = c.in_err-prepare.ensures in
     rw (p.1, p.2)
     (wrote_nothing g.E.Env (g.C.Cmp.cmp c.args.self.now.cmp) c.args.self.now c.args.env.now c.args.batch c.args.sync _ c.prepare.new.self c.prepare.new.batch prepares
-    c.in_err-prepare.field-0.0 (inl prepares.cause))
+    c.in_err-prepare.field-0.0 prepares.cause)
 
 pub returns-in_err-log_batch-clause-writes : goal.returns-in_err-log_batch-clause-writes
 returns-in_err-log_batch-clause-writes g c =

@@ -39,7 +39,8 @@ returns-clause-makes g c =
     (ap g.C.Cmp.cmp made.makes.rest.cmp ∙ sym c.requires.order)
     (subst (λ (s : OpenStoreValue g.row.C.Denot). OnOk c.compact_if_asked.result
     (LogsByScore (g.C.Cmp.cmp s.cmp) s.set c.compact_if_asked.new.self.set)) charged
-    c.compact_if_asked.ensures.asked.by_score) c.charge.new.store charged
+    c.compact_if_asked.ensures.asked.by_score) c.compact_if_asked.ensures.asked.asks
+    c.charge.new.store charged
     (subst (λ (s : OpenStoreValue g.row.C.Denot). CompactsOnceAtMost (g.C.Cmp.cmp s.cmp)
     g.E.Env.models_disk c.charge.new.store (g.E.Env.observed c.make_room.new.env)
     c.compact_if_asked.new.self (g.E.Env.observed c.compact_if_asked.new.env)) charged
