@@ -7,6 +7,7 @@ pub mod LevelForLemmas
 pub mod CurrentVersionLemmas
 pub mod LevelsApartLemmas
 pub mod LevelsReadLemmas
+pub mod OrderedFilesLemmas
 pub mod TableKeepsLemmas
 pub mod SoundLemmas
 pub mod WrittenFromLemmas

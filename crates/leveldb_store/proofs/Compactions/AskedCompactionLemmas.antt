@@ -1,46 +1,36 @@
 -- The compaction for which an open store asks, and what its edit takes from the level whose score
 -- asks for it.
-use Rattle.std.proofs.Common.{◌≡◌, ◌≢◌, ◌∙◌, ◌⊎◌, ◌<◌, ◌≤◌, ◌*◌, ◌+◌, ◌^◌, ◌-◌, ◌==◌, zero, suc, ℕ, Bool, true, false, cond, List, [], ◌∷◌, Option, None, Some, Result, Ok, Err, ap, arith, inl, inr, min, refl, subst, sym}
+use Rattle.std.proofs.Common.{◌≡◌, ◌∙◌, ◌⊎◌, ◌<◌, ◌≤◌, ◌*◌, ◌+◌, ◌^◌, ◌-◌, ◌==◌, zero, suc, ℕ, Bool, true, false, cond, List, [], ◌∷◌, Option, None, Some, Result, Ok, Err, ap, arith, inl, inr, min, refl, subst, sym}
 use Rattle.std.specs.Prelude.{◌||◌, Contains, IfErr, IfSome, IsPermutation, IsTrue, OnErr, OnOk, find, is_some}
 use Rattle.std.specs.Option.{option_map_or, option_or}
 use Rattle.std.specs.Ordering.{is_gt}
 use Rattle.std.proofs.lemmas.Bool.{eqb-true}
-use Rattle.std.proofs.lemmas.List.Elements.{All-contains}
 use Rattle.std.proofs.lemmas.List.Sorted.{Contains-permutation, IsPermutation-sym, length_permutation, sum_by-IsPermutation}
 use Rattle.std.proofs.lemmas.Result.{IfOk-weaker}
-use Rattle.std.specs.Cmp.{IsTotalOrder}
 use Rattle.std.specs.declared.cmp.Ordering.{Ordering}
-use Rattle.std.specs.declared.cmp.Ordering.TheVariants.{Less}
-use Rattle.leveldb_base.proofs.EntriesLemmas.{in_map}
 use Rattle.leveldb_base.proofs.HistoryLemmas.{in_front, in_rest}
 use Rattle.leveldb_base.specs.Error.{IsOutOfMemory}
-use Rattle.leveldb_base.specs.KeyTypes.{internal_cmp, user_part}
+use Rattle.leveldb_base.specs.KeyTypes.{internal_cmp}
 use Rattle.leveldb_base.specs.declared.error.Status.{Status}
-use Rattle.leveldb_env.specs.Env.{Files}
 use Rattle.leveldb_version.proofs.Versions.ChangeLemmas.{IsPermutation-filter}
 use Rattle.leveldb_version_set.proofs.Compactions.PickingLemmas.{asking_has_files}
 use Rattle.leveldb_version.proofs.Versions.ScoresLemmas.{scores_tell_level}
 use Rattle.leveldb_version.proofs.Versions.SearchLemmas.{kept_passes}
 use Rattle.leveldb_version_set.specs.Sets.CurrentVersion.{IsCurrent}
-use Rattle.leveldb_files.specs.Stores.Format.{IsTableOf, Meaning}
 use Rattle.leveldb_version_set.specs.Compactions.Inputs.{AreOrdered}
-use Rattle.leveldb_files.specs.Levels.Levels.{LiveTable}
 use Rattle.leveldb_version_set.specs.Sets.LogEdit.{set_appended}
 use Rattle.leveldb_version_set.specs.Compactions.Picking.{CompactionValue, IsAskedFor, IsCompactionOf, asking_file, file_after, file_by_reads, needs_compaction, used_pointer}
 use Rattle.leveldb_version.specs.Versions.Scores.{level_by_score, level_limit, level_load}
-use Rattle.leveldb_files.specs.Stores.Store.{HasTable}
 use Rattle.leveldb_files.specs.Levels.Summary.{files_of_level}
 use Rattle.leveldb_version.specs.Versions.Version.{VersionValue, new_files_of}
 use Rattle.leveldb_files.specs.Edits.Edit.{NewFile, Pointer}
 use Rattle.leveldb_files.specs.Edits.VersionSet.{level_file}
 use Rattle.leveldb_store.proofs.Compactions.CompactLevelLemmas.{compaction_as_manual}
 use Rattle.leveldb_store.proofs.Logs.ReplayFilesLemmas.{GivesNumbers-refl}
-use Rattle.leveldb_store.proofs.Keeping.TableKeepsLemmas.{in_range_of}
 use Rattle.leveldb_store.specs.Compactions.Compact.{CompactsIfAsked, LogsCompaction, LogsPicked}
 use Rattle.leveldb_store.specs.Keeping.LoggedEdits.{LogsByScore}
 use Rattle.leveldb_store.specs.Openings.Opening.{GivesNumbers}
 use Rattle.leveldb_store.specs.Keeping.OpenStore.{OpenStoreValue}
-use Rattle.leveldb_store.specs.Keeping.Written.{HasLiveTables}
 
 -- ---- scores, whatever the order of the files
 
@@ -157,19 +147,20 @@ module _ {C : Type 0} {cmp : List ℕ → List ℕ → Ordering} {by : C} (old n
       (IsPermutation-sym old.set.full.added (new_files_of old.current) current.same_files) there)
 
   pub logged_by_score : (max_file_size : ℕ) (picked : Option (CompactionValue C))
+      → AreOrdered cmp old.set.full.added
       → IsAskedFor cmp old.set.full.pointers old.current max_file_size picked
-      → LogsPicked cmp picked old new → LogsByScore cmp old.set new.set
-  logged_by_score max_file_size None asked same = record {
+      → LogsPicked cmp picked old new → LogsByScore old.set new.set
+  logged_by_score max_file_size None ordered asked same = record {
     edit = None;
     logs = subst (λ (v : OpenStoreValue C). GivesNumbers old.set v.set) (sym same)
         (GivesNumbers-refl old.set);
     takes = tt;
-    by_score = λ ordered level asks.
+    by_score = λ level asks.
         let file = asking_in_level cmp old.set.full.pointers old.current level
         (scores_alike old.set.full.added (new_files_of old.current) current.same_files level asks) in
         asked.some (ordered_current ordered) file.0 file.1;
   }
-  logged_by_score max_file_size (Some it) asked logged = record {
+  logged_by_score max_file_size (Some it) ordered asked logged = record {
     edit = Some logged.edit;
     logs = (
       logged.given,
@@ -193,7 +184,7 @@ module _ {C : Type 0} {cmp : List ℕ → List ℕ → Ordering} {by : C} (old n
                 (logged.replaces.added.within added there).0 in omega (arith, at, same);
           },
         );
-    by_score = λ ordered level asks.
+    by_score = λ level asks.
         let file = asking_in_level cmp old.set.full.pointers old.current level
         (scores_alike old.set.full.added (new_files_of old.current) current.same_files level asks) in
         let takes = asked.some (ordered_current ordered) file.0 file.1 in
@@ -223,17 +214,17 @@ module _ {C : Type 0} {cmp : List ℕ → List ℕ → Ordering} {by : C} (old n
 
   -- what the one leaves that is asked for
   pub compacts_if_asked : (max_file_size : ℕ) (picked : Option (CompactionValue C))
-      (result : Result (Unit {0}) Status)
+      (result : Result (Unit {0}) Status) → AreOrdered cmp old.set.full.added
       → IsAskedFor cmp old.set.full.pointers old.current max_file_size picked
       → OnOk result (IfSome picked (λ it. LogsCompaction cmp it old new))
       → (picked ≡ None → (result ≡ Ok tt) × (new ≡ old)) → OnErr result (new.set.full ≡ old.set.full)
       → OnErr result (new.current ≡ old.current)
       → CompactsIfAsked cmp max_file_size old result new
-  compacts_if_asked max_file_size picked result asked logged none err version = record {
+  compacts_if_asked max_file_size picked result ordered asked logged none err version = record {
     logged = IfOk-weaker result _ _ (λ unit logs. (picked, asked, logs))
         (logs_picked cmp old new picked result logged (λ is. (none is).1));
     by_score = IfOk-weaker result _ _
-        (λ unit logs. logged_by_score max_file_size picked asked logs)
+        (λ unit logs. logged_by_score max_file_size picked ordered asked logs)
         (logs_picked cmp old new picked result logged (λ is. (none is).1));
     err = err;
     asks = asks_still max_file_size picked result asked (λ is. (none is).0) version;
@@ -256,16 +247,3 @@ picked_ends Ends None (Ok done) ends none = inl (none refl)
 picked_ends Ends (Some it) (Ok done) ends none = inr ends
 picked_ends Ends None (Err status) ends none = tt
 picked_ends Ends (Some it) (Err status) ends none = tt
-
--- ---- of a store that is written
-
--- no file is turned round that is a live table
-pub tables_not_turned : {C : Type 0} (cmp : List ℕ → List ℕ → Ordering) → IsTotalOrder cmp
-    → (meaning : Meaning) (value : OpenStoreValue C) (files : Files) (live : List LiveTable)
-    → HasLiveTables cmp meaning value files live → AreOrdered cmp value.set.full.added
-tables_not_turned cmp total meaning value files live has file there =
-    let of = in_map (λ (table : LiveTable). table.file) live file
-    (subst (λ (fs : List NewFile). Contains fs file) (sym has.files_are) there) in
-    let bounded = in_range_of cmp meaning total value.set.store files of.0
-    (All-contains (HasTable value.set.store cmp (IsTableOf cmp meaning) files) live of.0 has.each of.1) in
-    subst (λ (f : NewFile). cmp (user_part f.largest) (user_part f.smallest) ≢ Less) of.2 bounded.ordered

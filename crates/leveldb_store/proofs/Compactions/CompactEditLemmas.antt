@@ -204,6 +204,11 @@ module _ {C : Type 0} (cmp : List ℕ → List ℕ → Ordering) (it : Compactio
           levels.apart may_here (λ file c. (r.deleted (level_file file)).1 (file, c, refl))
           r.added.within r.added.apart;
       once = (files_are_edited edit files).once levels.once;
+      ordered = λ file c. ⊎_elim
+          (λ (new : Contains edit.added file). (r.added.within file new).1.ordered)
+          (λ (was : Contains files file × ((at : LevelFile) → Contains edit.deleted at
+          → is_same_file (level_file file) at ≡ false)). levels.ordered file was.0)
+          ((files_are_edited edit files).among file c);
       seven = λ modelled. all_from_contains (λ (file : NewFile). file.level < 7)
           (files_after edit files) (λ file c. ⊎_elim
           (λ (new : Contains edit.added file).

@@ -16,6 +16,7 @@ use Rattle.leveldb_base.specs.Types.{Pair}
 use Rattle.leveldb_version_set.proofs.Sets.DisjointLemmas.{usable_disjoint}
 use Rattle.leveldb_version.proofs.Versions.DisjointLemmas.{fewer_disjoint, picked_disjoint}
 use Rattle.leveldb_version.proofs.Versions.SearchLemmas.{all_from_contains, kept_passes, passes_kept}
+use Rattle.leveldb_version_set.specs.Compactions.Inputs.{AreOrdered}
 use Rattle.leveldb_version.specs.Edits.FullEdit.{files_with, files_without}
 use Rattle.leveldb_files.specs.Levels.Overlap.{file_range, output_level}
 use Rattle.leveldb_version_set.specs.Sets.Recover.{IsUsable}
@@ -204,8 +205,19 @@ module _ (models_disk : Bool) (cmp : List ℕ → List ℕ → Ordering) where
   usable_levels total comparator edits usable files lists seven = record {
     apart = usable_apart cmp total comparator edits usable files lists;
     once = lists.once;
+    ordered = λ file c. users_in_order cmp total file.smallest file.largest
+        (usable.ranges file ((lists.live file).0 c)).in_order;
     seven = seven;
   }
+
+  ordered_with : (files : List NewFile) (file : NewFile)
+      → cmp (user_part file.largest) (user_part file.smallest) ≢ Less → AreOrdered cmp files
+      → AreOrdered cmp (files_with files file)
+  ordered_with files file in_order ordered other c = ⊎_elim
+      (λ (there : Contains files other). ordered other there)
+      (λ (same : file ≡ other). subst (λ (one : NewFile).
+      cmp (user_part one.largest) (user_part one.smallest) ≢ Less) same in_order)
+      (with_cases cmp files file other c)
 
   seven_with : (files : List NewFile) (file : NewFile) → file.level < 7
       → All (λ (one : NewFile). one.level < 7) files
@@ -225,19 +237,23 @@ module _ (models_disk : Bool) (cmp : List ℕ → List ℕ → Ordering) where
   levels_with_picked files file picked less in_order levels = record {
     apart = apart_with_picked cmp files file picked in_order levels.apart;
     once = once_with files file levels.once;
+    ordered = ordered_with files file in_order levels.ordered;
     seven = λ modelled. seven_with files file less (levels.seven modelled);
   }
 
   -- with files of level 0 more
   pub levels_with_zeros : (added files : List NewFile)
-      → All (λ (file : NewFile). file.level ≡ 0) added → AreInLevels models_disk cmp files
+      → All (λ (file : NewFile). file.level ≡ 0) added → AreOrdered cmp added
+      → AreInLevels models_disk cmp files
       → AreInLevels models_disk cmp (fold files_with files added)
-  levels_with_zeros [] files zeros levels = levels
-  levels_with_zeros (file ∷ added) files zeros levels =
+  levels_with_zeros [] files zeros ordered levels = levels
+  levels_with_zeros (file ∷ added) files zeros ordered levels =
       let zero = All-head (λ (f : NewFile). f.level ≡ 0) file added zeros in
       levels_with_zeros added (files_with files file)
-      (All-tail (λ (f : NewFile). f.level ≡ 0) file added zeros) (record {
+      (All-tail (λ (f : NewFile). f.level ≡ 0) file added zeros)
+      (λ other c. ordered other (in_rest file other added c)) (record {
         apart = apart_with_zero cmp files file zero levels.apart;
         once = once_with files file levels.once;
+        ordered = ordered_with files file (ordered file (in_front file added)) levels.ordered;
         seven = λ modelled. seven_with files file (omega (arith, zero)) (levels.seven modelled);
       })

@@ -5,11 +5,13 @@ use Rattle.std.proofs.lemmas.List.{append-nil}
 use Rattle.leveldb_base.proofs.HistoryLemmas.{in_cases, in_none}
 use Rattle.leveldb_env.specs.declared.env.Env.{Ghosts}
 use Rattle.leveldb_files.specs.Levels.Levels.{LiveTable, table_entries}
+use Rattle.leveldb_version_set.specs.Compactions.Inputs.{AreOrdered}
 use Rattle.leveldb_version_set.specs.Sets.VersionSetValue.{VersionSetValue}
 use Rattle.leveldb_files.specs.Stores.Format.{Format}
 use Rattle.leveldb_store.specs.Openings.Opening.{IsMadeTable}
 use Rattle.leveldb_store.specs.Openings.OpeningSteps.{TablesAll}
 use Rattle.leveldb_store.proofs.Keeping.GivenNumbersLemmas.{one_more_given}
+use Rattle.leveldb_store.proofs.Keeping.OrderedFilesLemmas.{ordered_push}
 use Rattle.leveldb_store.specs.Logs.ReplayLog.{TablesRest, table_files}
 use Rattle.leveldb_store.specs.declared.opening.replay_log.ReplayedLog.{ReplayedLog}
 
@@ -28,6 +30,7 @@ module _ {E F C : Type 0} (env : Ghosts E F) (format : Format) (log : ReplayedLo
     };
     entries = λ entry. (λ c. absurd (in_none entry c), λ c. subst (λ es. Contains es entry) none c);
     given = λ before. before;
+    ordered = λ before. before;
     few = inl refl;
   }
 
@@ -49,6 +52,8 @@ module _ {E F C : Type 0} (env : Ghosts E F) (format : Format) (log : ReplayedLo
       λ c. subst (λ es. Contains es entry) (sym is) c,
     );
     given = one_more_given env format log set new now at made;
+    ordered = λ before. subst (AreOrdered format.order) (sym made.files)
+        (ordered_push format.order (table_files log) made.table.file made.ordered before);
     few = inr (some, ap (λ (v : VersionSetValue). v.next_file) made.given);
   }
     where

@@ -7,13 +7,14 @@ use Rattle.std.proofs.lemmas.List.Elements.{All-push, Contains-append_cases, Con
 use Rattle.std.proofs.lemmas.List.Kept.{AllPairs-cons}
 use Rattle.std.proofs.lemmas.List.Concat.{flat_map-append}
 use Rattle.std.specs.Global.{Vec}
+use Rattle.std.specs.Cmp.{IsTotalOrder}
 use Rattle.std.specs.declared.cmp.Ordering.{Ordering}
 use Rattle.leveldb_base.proofs.HistoryLemmas.{in_front, in_none, in_rest}
 use Rattle.leveldb_base.proofs.NamesLemmas.{made_paths_apart}
 use Rattle.leveldb_base.specs.Entries.{internal_pair}
 use Rattle.leveldb_base.specs.Error.{IsOutOfMemory}
-use Rattle.leveldb_base.specs.History.{AreUpTo, Entry, Item, greatest, placed}
-use Rattle.leveldb_base.specs.KeyTypes.{greatest_sequence, user_part}
+use Rattle.leveldb_base.specs.History.{AreRising, AreUpTo, Entry, Item, greatest, placed}
+use Rattle.leveldb_base.specs.KeyTypes.{greatest_sequence, internal_cmp, user_part}
 use Rattle.leveldb_base.specs.Types.{Pair}
 use Rattle.leveldb_base.specs.declared.cmp.Cmp.{Ghosts as CmpGhosts}
 use Rattle.leveldb_base.specs.declared.error.Status.{Status}
@@ -39,6 +40,7 @@ use Rattle.leveldb_files.specs.Stores.Paths.{table_path}
 use Rattle.leveldb_files.specs.Stores.Store.{IsInternalPair}
 use Rattle.leveldb_files.specs.Steps.StoreSteps.{IsKept}
 use Rattle.leveldb_files.specs.Edits.Edit.{NewFile}
+use Rattle.leveldb_version_set.specs.Compactions.Inputs.{AreOrdered}
 use Rattle.leveldb_version.specs.Edits.VersionEdit.{new_file_of}
 use Rattle.leveldb_version_set.specs.Sets.VersionSetValue.{AreFileNumbersUsedUp, VersionSetValue, with_number_given}
 use Rattle.leveldb_store.specs.Tables.BuildTable.{IsNotBuilt, MakesTable, TableChoices}
@@ -50,6 +52,8 @@ use Rattle.leveldb_store.specs.Writing.Room.{AreFull}
 use Rattle.leveldb_store.specs.declared.opening.replay_log.ReplayedLog.{ReplayedLog}
 use Rattle.leveldb_store.specs.Keeping.OpenStore.{AreNumbersGiven}
 use Rattle.leveldb_store.proofs.Keeping.GivenNumbersLemmas.{none_given, one_more_given}
+use Rattle.leveldb_store.proofs.Keeping.LevelsApartLemmas.{range_in_order}
+use Rattle.leveldb_store.proofs.Keeping.OrderedFilesLemmas.{none_ordered, ordered_push}
 use Rattle.leveldb_store.proofs.Logs.ReplayFilesLemmas.{GivesNumbers-refl, GivesNumbers-trans, MakesTablesOnly-made, MakesTablesOnly-none, same_store}
 
 -- ---- lists
@@ -378,6 +382,7 @@ module _ {E F : Type 0} (env : Ghosts E F) (format : Format) {C : Type 0} where
     );
     newer = λ a b c d. absurd (in_none a c);
     given = none_given set log no_tables;
+    ordered = none_ordered format.order log.tables.items no_tables;
     in_memory = last_none [] log.rest.kept.entries none;
     places = places;
     few = omega arith;
@@ -456,6 +461,8 @@ module _ {E F : Type 0} (env : Ghosts E F) (format : Format) {C : Type 0} where
         (Contains-append_cases old.rest.kept.entries (batch_entries batch) b ((adds.gains b).0 d));
     given = subst (λ (log : ReplayedLog C). AreNumbersGiven set (table_files log)) (sym adds.rest)
         was.given;
+    ordered = subst (λ (log : ReplayedLog C). AreOrdered format.order (table_files log))
+        (sym adds.rest) was.ordered;
     in_memory = last_more batches old.rest.kept.entries new.rest.kept.entries batch was.in_memory
         adds.gains adds.grows;
     places = adds.places was.places;
@@ -523,6 +530,8 @@ module _ {E F : Type 0} (env : Ghosts E F) (format : Format) {C : Type 0} where
         was.entries;
     newer = λ a b c d. absurd (in_none b (subst (λ es. Contains es b) made.none_left d));
     given = one_more_given env format old set new now to made was.given;
+    ordered = subst (AreOrdered format.order) (sym made.files)
+        (ordered_push format.order (table_files old) made.table.file made.ordered was.ordered);
     in_memory = last_none batches new.rest.kept.entries made.none_left;
     places = made.places;
     few =
@@ -649,15 +658,20 @@ module _ {E F D FP C : Type 0} (env : Ghosts E F) {order : CmpGhosts D} {filters
 
       pub MakesRestTable-done : (tables : Vec FileMetaData) (rest : MemTableState C)
           → tables.items ≡ old.tables.items ++ file ∷ [] → rest.kept.entries ≡ []
-          → rest.kept.places ≡ 0 → rest.cmp ≡ old.rest.cmp
+          → rest.kept.places ≡ 0 → rest.cmp ≡ old.rest.cmp → IsTotalOrder choices.format.order
+          → AreRising (internal_cmp choices.format.order) pairs
           → MakesRestTable env choices old set from (Ok tt)
           (record old { tables = tables; rest = rest }) (with_number_given set) to
-      MakesRestTable-done tables rest items none places cmp = record {
+      MakesRestTable-done tables rest items none places cmp total rising = record {
         spares = made_only makes;
         ok = record {
           table = table;
           number = makes.number_is.0 ∙ is_number;
           given = refl;
+          ordered =
+              let made = makes.made some_pairs in
+              range_in_order choices.format.order total pairs rising file.smallest file.largest
+              made.smallest made.largest;
           made = λ modelled meaning agrees. subst (λ s. IsMadeTable choices.format.order meaning s
               (env.observed to).disk.files table) is_store (is_made modelled meaning agrees);
           entries = refl;

@@ -14,10 +14,12 @@ use Rattle.leveldb_base.specs.declared.types.FileMetaData.{FileMetaData}
 use Rattle.leveldb_env.specs.Env.{HasCause}
 use Rattle.leveldb_env.specs.declared.env.Env.{Ghosts}
 use Rattle.leveldb_env.specs.declared.filter.FilterPolicy.{Ghosts as FilterGhosts}
+use Rattle.leveldb_store.proofs.Keeping.OrderedFilesLemmas.{none_ordered}
 use Rattle.leveldb_version_set.proofs.Sets.RecoverLemmas.{cause_of_error}
 use Rattle.leveldb_mem.specs.WriteBatch.{Batch}
 use Rattle.leveldb_files.specs.Stores.Paths.{log_path}
 use Rattle.leveldb_files.specs.Edits.Edit.{NewFile}
+use Rattle.leveldb_version_set.specs.Compactions.Inputs.{AreOrdered}
 use Rattle.leveldb_version.specs.Edits.VersionEdit.{new_file_of}
 use Rattle.leveldb_version_set.specs.Sets.VersionSetValue.{VersionSetValue}
 use Rattle.leveldb_store.specs.Tables.BuildTable.{TableChoices}
@@ -93,6 +95,7 @@ module _ {E F D FP C : Type 0} (env : Ghosts E F) {order : CmpGhosts D} {filters
     pub up_to : AreUpTo replay.last (entries_to_write replay.used)
     pub room : IfSome replay.used (λ used. IsFull limit used.entries.kept → ⊥)
     pub given : AreNumbersGiven now (made_files replay.tables.items)
+    pub ordered : AreOrdered choices.format.order (made_files replay.tables.items)
     pub few : MakeFewTables env front set from now
 
   -- none is replayed yet
@@ -134,6 +137,7 @@ module _ {E F D FP C : Type 0} (env : Ghosts E F) {order : CmpGhosts D} {filters
     room = subst (λ used. IfSome used (λ it. IsFull limit it.entries.kept → ⊥)) (sym unused) tt;
     given = subst (λ made. AreNumbersGiven set (made_files made)) (sym no_tables)
         (All-nil (λ (file : NewFile). file.number < set.next_file));
+    ordered = none_ordered choices.format.order replay.tables.items no_tables;
     few = ([], λ modelled. refl, omega arith);
   }
     where
@@ -203,6 +207,7 @@ module _ {E F D FP C : Type 0} (env : Ghosts E F) {order : CmpGhosts D} {filters
         up_to = next.up_to;
         room = next.room;
         given = next.given so_far.given;
+        ordered = next.ordered so_far.ordered;
         few = (
           so_far.few.0 ++ next.few.0,
           λ modelled. logs_then set.store (env.observed from).disk.files so_far.front so_far.few.0
@@ -230,6 +235,7 @@ module _ {E F D FP C : Type 0} (env : Ghosts E F) {order : CmpGhosts D} {filters
         up_to = tt;
         room = tt;
         given = tt;
+        ordered = tt;
         few = tt;
         cause = cause_of_error status
             (λ why. ⊎_elim (λ memory. inl memory)

@@ -13,6 +13,7 @@ use Rattle.leveldb_env.specs.declared.env.Env.{Ghosts}
 use Rattle.leveldb_env.specs.declared.filter.FilterPolicy.{Ghosts as FilterGhosts}
 use Rattle.leveldb_mem.specs.MemTable.{Kept, memory_of_entries}
 use Rattle.leveldb_version_set.proofs.Sets.RecoverLemmas.{cause_of_error}
+use Rattle.leveldb_version_set.specs.Compactions.Inputs.{AreOrdered}
 use Rattle.leveldb_version.specs.Edits.VersionEdit.{new_file_of}
 use Rattle.leveldb_version_set.specs.Sets.VersionSetValue.{VersionSetValue}
 use Rattle.leveldb_store.specs.Tables.BuildTable.{TableChoices}
@@ -25,6 +26,7 @@ use Rattle.leveldb_store.specs.declared.opening.replay.UsedLog.{UsedLog}
 use Rattle.leveldb_store.specs.declared.opening.replay_log.ReplayedLog.{ReplayedLog}
 use Rattle.leveldb_store.proofs.Logs.FoundLogsLemmas.{front_few}
 use Rattle.leveldb_store.proofs.Keeping.GivenNumbersLemmas.{given_append, given_later}
+use Rattle.leveldb_store.proofs.Keeping.OrderedFilesLemmas.{ordered_append}
 use Rattle.leveldb_store.proofs.Logs.ReplayFilesLemmas.{MakesTablesOnly-trans}
 use Rattle.leveldb_store.proofs.Logs.ReplayLogLemmas.{fails_of_rest, some_last}
 use Rattle.leveldb_store.proofs.Logs.ReplayMoreLemmas.{HasReplayedLogs-tables_made, HasReplayedLogs-used, damaged_after, missing_after, torn_after}
@@ -70,6 +72,7 @@ module _ {E F D FP C : Type 0} (env : Ghosts E F) {order : CmpGhosts D} {filters
     up_to = tt;
     room = tt;
     given = tt;
+    ordered = tt;
     few = tt;
     cause = cause_of_error status
         (λ why. ⊎_elim
@@ -134,6 +137,7 @@ module _ {E F D FP C : Type 0} (env : Ghosts E F) {order : CmpGhosts D} {filters
       up_to = tt;
       room = tt;
       given = tt;
+      ordered = tt;
       few = tt;
       cause = record {
         later = replays.cause.later;
@@ -182,6 +186,8 @@ module _ {E F D FP C : Type 0} (env : Ghosts E F) {order : CmpGhosts D} {filters
             given = λ before. subst (λ made. AreNumbersGiven mid (made_files made)) (sym items)
                 (given_later set mid replays.spares.numbers.rises (made_files old.tables.items)
                 before);
+            ordered = λ before. subst (λ made. AreOrdered choices.format.order (made_files made))
+                (sym items) before;
             few = few_made mid (inl refl);
             cause = record {
               later = replays.cause.later;
@@ -224,6 +230,7 @@ module _ {E F D FP C : Type 0} (env : Ghosts E F) {order : CmpGhosts D} {filters
           up_to = tt;
           room = tt;
           given = tt;
+          ordered = tt;
           few = tt;
           cause = cause_of_error status
               (λ why. ⊎_elim (λ memory. inl memory)
@@ -245,6 +252,7 @@ module _ {E F D FP C : Type 0} (env : Ghosts E F) {order : CmpGhosts D} {filters
             up_to = tt;
             room = tt;
             given = tt;
+            ordered = tt;
             few = tt;
             cause = record {
               later = let later = replays.cause.later in omega (arith, later, counted);
@@ -281,6 +289,9 @@ module _ {E F D FP C : Type 0} (env : Ghosts E F) {order : CmpGhosts D} {filters
                 (given_append now old.tables.items files
                 (given_later set now both.numbers.rises (made_files old.tables.items) before)
                 (all.given replays.given));
+            ordered = λ before. subst (λ made. AreOrdered choices.format.order (made_files made))
+                (sym items) (ordered_append choices.format.order old.tables.items files before
+                (all.ordered replays.ordered));
             few = few_made now all.few;
             cause = record {
               later = let later = replays.cause.later in omega (arith, later, counted);

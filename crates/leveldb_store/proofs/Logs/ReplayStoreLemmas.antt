@@ -117,6 +117,7 @@ replayed_still env format {first} {now} was run = record {
   entries = was.entries;
   newer = was.newer;
   given = was.given;
+  ordered = was.ordered;
   in_memory = was.in_memory;
   places = was.places;
   few = was.few;
@@ -152,6 +153,7 @@ module _ {E F D FP C : Type 0} (env : Ghosts E F) {order : CmpGhosts D}
     room = tt;
     unusable = tt;
     given = tt;
+    ordered = tt;
     up_to = tt;
     batches = tt;
     cause = cause;
@@ -428,6 +430,7 @@ module _ {E F D FP C : Type 0} (env : Ghosts E F) {order : CmpGhosts D}
           why = replayed_log which;
         };
         given = now_replayed.given;
+        ordered = now_replayed.ordered;
         up_to = replayed_up_to env choices.format so_far.replayed;
         batches = record {
           batches = so_far.batches;

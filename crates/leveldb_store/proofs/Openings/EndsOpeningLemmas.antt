@@ -114,7 +114,7 @@ module _ {E F C FP D P : Type 0} (order : CmpGhosts (InternalKeyCmp C)) (env : G
         (between : TableCache E C FP F)
         (compacts : CompactsTables order env by kept at tables choices old.set.last_sequence compacted
         new mid between)
-        (by_score : OnOk compacted (LogsByScore by.format.order old.set new.set))
+        (by_score : OnOk compacted (LogsByScore old.set new.set))
         (err : OnErr compacted (new.set.full ≡ old.set.full))
         (breaks : BreaksForCause env kept at compacted new mid) where
       -- files were read before it

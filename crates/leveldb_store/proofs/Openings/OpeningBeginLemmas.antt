@@ -591,7 +591,7 @@ module _ {E F D FP : Type 0} (env : Ghosts E F) {order : CmpGhosts D} {filters :
                 own = λ modelled. subst (λ s. IsFilePath Descriptor s it.manifest.path) path3 (it.own (own3 modelled) fits3);
                 there = λ modelled. it.there modelled fits3 (there3 modelled);
                 given = it.given live3 made3;
-                levels = it.levels format.order levels3;
+                levels = it.levels format.order replays.ordered levels3;
                 tables = λ modelled. All-weaker (HasFile (env.observed e2).disk.files) (HasFile (env.observed e3).disk.files)
                     (λ file has. (
                       has.0,

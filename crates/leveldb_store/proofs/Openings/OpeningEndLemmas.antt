@@ -25,6 +25,7 @@ use Rattle.leveldb_version_set.proofs.Engines.OpeningEndLemmas.{openings_end, op
 use Rattle.leveldb_files.specs.Stores.Contents.{Contents, Store, made}
 use Rattle.leveldb_version_set.specs.Sets.CurrentFile.{temp_path}
 use Rattle.leveldb_files.specs.Histories.Holds.{Holds}
+use Rattle.leveldb_version_set.specs.Compactions.Inputs.{AreOrdered}
 use Rattle.leveldb_version.specs.Edits.FullEdit.{files_after, full_after}
 use Rattle.leveldb_version_set.specs.Sets.LogEdit.{AppendingAndSyncing, AppendsEdit, BeginsManifest, LogEditResult, edit_record, new_manifest, new_records, set_appended, set_begun, with_bytes_kept, written_edit}
 use Rattle.leveldb_version_set.specs.Sets.NewManifest.{MakingManifest, manifest_bytes, with_manifest}
@@ -436,7 +437,7 @@ module _ {E F : Type 0} (env : Ghosts E F) (built : List FileMetaData) (set : Ve
     -- the number of each live file was given, if it was of each before and of each that is added
     pub given : AreNumbersGiven set set.full.added → AreNumbersGiven set (made_files built)
         → AreNumbersGiven new new.full.added
-    pub levels : (cmp : List ℕ → List ℕ → Ordering)
+    pub levels : (cmp : List ℕ → List ℕ → Ordering) → AreOrdered cmp (made_files built)
         → AreInLevels env.models_disk cmp set.full.added
         → AreInLevels env.models_disk cmp new.full.added
     -- the live files are those after the edit
@@ -451,11 +452,13 @@ module _ {E F : Type 0} (env : Ghosts E F) (built : List FileMetaData) (set : Ve
 
   -- the files that are added are in level 0
   levels_after : (next : VersionSetValue) → next.full ≡ full_after set.full tables
-      → (cmp : List ℕ → List ℕ → Ordering) → AreInLevels env.models_disk cmp set.full.added
+      → (cmp : List ℕ → List ℕ → Ordering) → AreOrdered cmp (made_files built)
+      → AreInLevels env.models_disk cmp set.full.added
       → AreInLevels env.models_disk cmp next.full.added
-  levels_after next full cmp levels =
+  levels_after next full cmp ordered levels =
       subst (λ (e : Edit). AreInLevels env.models_disk cmp e.added) (sym full)
-      (levels_with_zeros env.models_disk cmp (made_files built) set.full.added (made_zeros built) levels)
+      (levels_with_zeros env.models_disk cmp (made_files built) set.full.added (made_zeros built)
+      ordered levels)
 
   given_after : (next : VersionSetValue) → next.full ≡ full_after set.full tables
       → next.next_file ≡ set.next_file → AreNumbersGiven set set.full.added

@@ -131,7 +131,7 @@ pub record CompactsIfAsked {C : Type 0} (cmp : List ℕ → List ℕ → Orderin
       × IsAskedFor cmp old.set.full.pointers old.current max_file_size picked
       × LogsPicked cmp picked old new)
   -- and so a file is taken from the level whose score asks for it
-  pub by_score : OnOk result (LogsByScore cmp old.set new.set)
+  pub by_score : OnOk result (LogsByScore old.set new.set)
   -- Err: the files are those that they were
   pub err : OnErr result (new.set.full ≡ old.set.full)
   -- and memory was out, or the version asks for that compaction still

@@ -1,8 +1,6 @@
 -- Which edits a call logs, by the version set before it and the one after it.
 use Rattle.std.specs.Prelude.{◌≡◌, ◌≢◌, ◌≤◌, ℕ, List, [], ◌∷◌, Option, Some, All, Contains, IfSome, IsSomeAnd, length}
 use Rattle.std.specs.List.{cons_option}
-use Rattle.std.specs.declared.cmp.Ordering.{Ordering}
-use Rattle.leveldb_version_set.specs.Compactions.Inputs.{AreOrdered}
 use Rattle.leveldb_version_set.specs.Sets.LogEdit.{set_appended}
 use Rattle.leveldb_version.specs.Versions.Scores.{level_by_score}
 use Rattle.leveldb_files.specs.Edits.Edit.{Edit, LevelFile, NewFile}
@@ -34,12 +32,11 @@ pub record TakesFromLevel (level : ℕ) (edit : Edit) : Type 0 where
   pub none_added : (file : NewFile) → Contains edit.added file → file.level ≢ level
 
 -- One edit was logged at most, which takes a file from a level. If the score of a level asks for a
--- compaction, and no file is turned round, one was, which takes a file from that level.
-pub record LogsByScore (cmp : List ℕ → List ℕ → Ordering) (old new : VersionSetValue)
-    : Type 0 where
+-- compaction, one was, which takes a file from that level.
+pub record LogsByScore (old new : VersionSetValue) : Type 0 where
   pub edit : Option Edit
   pub logs : LogsEdits old (cons_option edit []) new
   -- so it is none of a memtable's table, which takes no file away
   pub takes : IfSome edit (λ e. (level : ℕ) × TakesFromLevel level e)
-  pub by_score : AreOrdered cmp old.full.added → (level : ℕ)
-      → level_by_score old.full.added ≡ Some level → IsSomeAnd edit (TakesFromLevel level)
+  pub by_score : (level : ℕ) → level_by_score old.full.added ≡ Some level
+      → IsSomeAnd edit (TakesFromLevel level)

@@ -6,6 +6,7 @@ use Rattle.leveldb_base.specs.declared.types.FileType.TheVariants.{Descriptor}
 use Rattle.leveldb_mem.specs.Log.Writer.{WriterState}
 use Rattle.leveldb_mem.specs.MemTable.{Kept}
 use Rattle.leveldb_files.specs.Stores.Paths.{IsFilePath}
+use Rattle.leveldb_version_set.specs.Compactions.Inputs.{AreOrdered}
 use Rattle.leveldb_version.specs.Versions.Search.{AreDisjointLevels}
 use Rattle.leveldb_version.specs.Versions.Version.{AreInVersionOrder, VersionValue, new_files_of}
 use Rattle.leveldb_files.specs.Edits.Edit.{NewFile}
@@ -44,12 +45,13 @@ abbrev pub HasOwnManifest : VersionSetValue → Type 0
 HasOwnManifest set = (manifest : OpenManifest) → set.manifest ≡ in_use manifest
     → IsFilePath Descriptor set.store manifest.path
 
--- files of a set: those of each level from 1 on are apart, each is listed once, and where the disk
--- is modelled there are seven levels
+-- files of a set: those of each level from 1 on are apart, each is listed once, none is turned
+-- round, and where the disk is modelled there are seven levels
 pub record AreInLevels (models_disk : Bool) (order : List ℕ → List ℕ → Ordering)
     (files : List NewFile) : Type 0 where
   pub apart : AreDisjointLevels order files
   pub once : IsDistinct is_same_file (map level_file files)
+  pub ordered : AreOrdered order files
   pub seven : IsTrue models_disk → All (λ (file : NewFile). file.level < 7) files
 
 -- the set has given the number of each of these files

@@ -1,10 +1,11 @@
 -- What each step of a replay of a log makes of memory and of the store's files, and why it fails.
 use Rattle.std.specs.Prelude.{◌≡◌, ◌≤◌, ◌<◌, ◌+◌, ◌^◌, ◌⊎◌, ◌≢◌, ℕ, List, [], ◌∷◌, ◌++◌, Contains, false, OnOk, IfOk, IsTrue, Result, length, map, max}
 use Rattle.std.specs.declared.cmp.Ordering.{Ordering}
+use Rattle.std.specs.declared.cmp.Ordering.TheVariants.{Less}
 use Rattle.leveldb_base.specs.Entries.{internal_pair}
 use Rattle.leveldb_base.specs.Error.{IsOutOfMemory}
 use Rattle.leveldb_base.specs.History.{AreUpTo, Entry, greatest}
-use Rattle.leveldb_base.specs.KeyTypes.{greatest_sequence}
+use Rattle.leveldb_base.specs.KeyTypes.{greatest_sequence, user_part}
 use Rattle.leveldb_base.specs.declared.cmp.Cmp.{Ghosts as CmpGhosts}
 use Rattle.leveldb_base.specs.declared.error.Status.{Status}
 use Rattle.leveldb_base.specs.declared.error.StatusCode.TheVariants.{Corruption}
@@ -20,6 +21,7 @@ use Rattle.leveldb_files.specs.Levels.Levels.{LiveTable, table_entries}
 use Rattle.leveldb_files.specs.Stores.Paths.{log_path}
 use Rattle.leveldb_files.specs.Stores.Store.{HasLog, ReplayedLog as StoreLog, SameEntries}
 use Rattle.leveldb_files.specs.Edits.Edit.{NewFile}
+use Rattle.leveldb_version_set.specs.Compactions.Inputs.{AreOrdered}
 use Rattle.leveldb_version.specs.Edits.VersionEdit.{new_file_of}
 use Rattle.leveldb_version_set.specs.Sets.VersionSetValue.{AreFileNumbersUsedUp, VersionSetValue, with_number_given}
 use Rattle.leveldb_store.specs.Tables.BuildTable.{IsNotBuilt, TableChoices}
@@ -123,8 +125,9 @@ module _ {E F : Type 0} (env : Ghosts E F) where
           (all_entries batches)
       pub newer : (a b : Entry) → Contains (table_entries tables) a
           → Contains log.rest.kept.entries b → a.sequence < b.sequence
-      -- each table's number was given
+      -- each table's number was given, and none is turned round
       pub given : AreNumbersGiven now (table_files log)
+      pub ordered : AreOrdered format.order (table_files log)
       -- in memory are those of the last batches, and no room for more; and there is at most a table
       -- for each batch before
       pub in_memory : AreLastEntries batches log.rest.kept.entries
@@ -137,6 +140,9 @@ module _ {E F : Type 0} (env : Ghosts E F) where
       pub table : LiveTable
       pub number : table.file.number ≡ set.next_file
       pub given : now ≡ with_number_given set
+      -- it isn't turned round
+      pub ordered : format.order (user_part table.file.largest) (user_part table.file.smallest)
+          ≢ Less
       pub made : IsTrue env.models_disk → (meaning : Meaning) → Agrees format meaning
           → IsMadeTable format.order meaning set.store (env.observed at).disk.files table
       pub entries : table.entries ≡ old.rest.kept.entries
@@ -256,8 +262,9 @@ module _ {E F D FP : Type 0} (env : Ghosts E F) {order : CmpGhosts D} {filters :
       pub unusable : IfOk result (λ log. IsTrue env.models_disk
           → (log.is_clean ≡ false) ⊎ (log.tables.items ≢ [])
           → IsUnusable limit set.store (env.observed from).disk.files number)
-      -- each table's number was given
+      -- each table's number was given, and none is turned round
       pub given : IfOk result (λ log. AreNumbersGiven now (table_files log))
+      pub ordered : IfOk result (λ log. AreOrdered choices.format.order (table_files log))
       pub batches : IfOk result (λ log. KeepsBatches env set number from log now)
       pub cause : HasCause (FailsToReplay set last number from to) (env.failures from)
           (env.failures to) result

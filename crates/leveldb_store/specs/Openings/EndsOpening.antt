@@ -30,7 +30,7 @@ pub record EndsOpening {E F C FP D P : Type 0} (order : CmpGhosts (InternalKeyCm
   pub compacts : CompactsTables order env by (record old { keeps_files = new.keeps_files }) from
       tables choices old.set.last_sequence compacted new to now
   -- Ok: one edit was logged at most, and one that takes a file from the level whose score asks
-  pub by_score : OnOk compacted (LogsByScore by.format.order old.set new.set)
+  pub by_score : OnOk compacted (LogsByScore old.set new.set)
   -- Err: the live files are those that they were
   pub err : OnErr compacted (new.set.full ≡ old.set.full)
   -- the opening is Ok where the store isn't broken, and else what the compaction returned

@@ -32,6 +32,7 @@ use Rattle.leveldb_version_set.specs.Sets.Recover.{SyncsManifestAtMost, Recovers
 use Rattle.leveldb_files.specs.Stores.Store.{HasEdits, HasLog, HasNoStore, HasTable, LogIsReplayed, ReplayedLog as StoreLog, SameEntries, log_batches, log_entries}
 use Rattle.leveldb_files.specs.Edits.Edit.{Edit, IsEncodable, NewFile}
 use Rattle.leveldb_files.specs.Edits.VersionSet.{ListsFiles, live_after}
+use Rattle.leveldb_version_set.specs.Compactions.Inputs.{AreOrdered}
 use Rattle.leveldb_version.specs.Edits.VersionEdit.{new_file_of}
 use Rattle.leveldb_version_set.specs.Sets.VersionSetValue.{AreFileNumbersUsedUp, OpenManifest, VersionSetValue, broken, in_use, new_version_set, unmade, with_number_given}
 use Rattle.leveldb_version_set.specs.Engines.Writing.{NumbersAreBelow}
@@ -284,6 +285,8 @@ pub record TablesAll {E F C : Type 0} (env : Ghosts E F) (format : Format) (log 
   pub entries : SameEntries (table_entries tables) log.rest.kept.entries
   -- each table's number was given, if those of the tables before were
   pub given : AreNumbersGiven old (table_files log) → AreNumbersGiven new files
+  -- and none is turned round, if none of those was
+  pub ordered : AreOrdered format.order (table_files log) → AreOrdered format.order files
   -- where there was an entry, a number was given
   pub few : (new.next_file ≡ old.next_file)
       ⊎ ((log.rest.kept.entries ≢ []) × (new.next_file ≡ old.next_file + 1))
@@ -401,6 +404,9 @@ module _ {E F D FP : Type 0} (env : Ghosts E F) {order : CmpGhosts D} {filters :
     -- each table's number was given, if those of the tables before were
     pub given : OnOk result (AreNumbersGiven set (made_files old.tables.items)
         → AreNumbersGiven now (made_files new.tables.items))
+    -- and none is turned round, if none of those was
+    pub ordered : OnOk result (AreOrdered choices.format.order (made_files old.tables.items)
+        → AreOrdered choices.format.order (made_files new.tables.items))
     pub few : OnOk result (MakesFewTables env number set from now)
     pub cause : HasCauseOr (λ status. FailsAtLog env choices set number from status
         ⊎ ((status.code ≡ Corruption)
@@ -423,8 +429,10 @@ module _ {E F D FP : Type 0} (env : Ghosts E F) {order : CmpGhosts D} {filters :
     pub up_to : IfOk result (λ replay. AreUpTo replay.last (entries_to_write replay.used))
     pub room : IfOk result (λ replay. IfSome replay.used (λ used.
         IsFull limit used.entries.kept → ⊥))
-    -- each table's number was given
+    -- each table's number was given, and none is turned round
     pub given : IfOk result (λ replay. AreNumbersGiven new (made_files replay.tables.items))
+    pub ordered : IfOk result (λ replay.
+        AreOrdered choices.format.order (made_files replay.tables.items))
     pub few : OnOk result (MakeFewTables env numbers old from new)
     pub cause : HasCauseOr (WhyNotReplayed old.store (env.observed from).disk.files numbers
         old.next_file) (env.failures from) (env.failures to) result

@@ -99,7 +99,7 @@ module _ {E F C FP D P : Type 0} (order : CmpGhosts (InternalKeyCmp C)) (env : G
       (now : TableCache E C FP F)
       → CompactsTables order env by mid at between choices smallest result new to now
       → {other : List ℕ → List ℕ → Ordering} → other ≡ by.format.order
-      → OnOk result (LogsByScore other mid.set new.set)
+      → OnOk result (LogsByScore mid.set new.set)
       → IfErr result (λ e. IsOutOfMemory e ⊎ IsTrue (needs_compaction new.current))
       → (charged : OpenStoreValue C)
       → charged ≡ record mid { current = charged.current }
@@ -122,12 +122,12 @@ module _ {E F C FP D P : Type 0} (order : CmpGhosts (InternalKeyCmp C)) (env : G
             (env.observed to)) also_same once);
       }
     where
-      logs : (result : Result (Unit {0}) Status) → OnOk result (LogsByScore other mid.set new.set)
-          → OnOk result (IsFull limit old.mem → LogsRoom by.format.order old.set new.set)
+      logs : (result : Result (Unit {0}) Status) → OnOk result (LogsByScore mid.set new.set)
+          → OnOk result (IsFull limit old.mem → LogsRoom old.set new.set)
       logs (Ok unit) by_score = λ also. record {
         tables_made = mid.set;
         tables = tables;
-        by_score = subst (λ c. LogsByScore c mid.set new.set) also_same by_score;
+        by_score = by_score;
       }
       logs (Err status) by_score = tt
 

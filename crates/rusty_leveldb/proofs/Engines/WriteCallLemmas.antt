@@ -242,14 +242,13 @@ module _ {E C FP F P : Type 0} {B : Boxed} {keys : InternalOrder C} {key_filters
       -- and what was logged is what room in the memtable logged
       batch_logs : (result : Result (Unit {0}) Status)
           → WritesBatch env (formats (engine_options roomy)).order roomy.store mid items sync result value
-          to → OnOk result (IsMemtableFull before
-          → LogsRoom (formats (engine_options before)).order before.store.set
+          to → OnOk result (IsMemtableFull before → LogsRoom before.store.set
           (record value.set { last_sequence = before.store.set.last_sequence }))
       batch_logs (Ok nothing) writes = λ full.
           let same = ap (λ (v : OpenStoreValue C).
           record v.set { last_sequence = before.store.set.last_sequence }) writes.rest
           ∙ ap (λ n. record roomy.store.set { last_sequence = n }) (sym made.makes.keeps.rest.last) in
-          subst (LogsRoom (formats (engine_options before)).order before.store.set) (sym same)
+          subst (LogsRoom before.store.set) (sym same)
           (made.makes.logs full)
       batch_logs (Err status) writes = tt
 

@@ -190,8 +190,7 @@ module _ {E C FP F P : Type 0} {B : Boxed} {keys : InternalOrder C} {key_filters
     pub waits : OnOk result (MakesNoImm before after)
     -- Ok, where the memtable was full: tables of memtables were logged, and a compaction after them
     -- where a level's score asks for it
-    pub logs : OnOk result (IsMemtableFull before
-        → LogsRoom (formats_of choices (engine_options before)).order before.store.set
+    pub logs : OnOk result (IsMemtableFull before → LogsRoom before.store.set
         (record after.store.set { last_sequence = before.store.set.last_sequence }))
     -- Err leaves what memory shows, and the mode, or a broken store
     pub failed : OnErr result (KeepsModeOrBreaks before after × KeepsMemory before after)

@@ -1,7 +1,6 @@
 -- What room in an engine's memtable leaves: a memtable that is full becomes a table, and then the
 -- compaction is done for which the store asks.
 use Rattle.std.specs.Prelude.{◌≡◌, ◌≢◌, ◌⊎◌, ◌++◌, ℕ, List, [], None, Result, Ok, Err, IfErr, IsTrue, OnErr, OnOk, is_some}
-use Rattle.std.specs.declared.cmp.Ordering.{Ordering}
 use Rattle.leveldb_base.specs.Error.{IsOutOfMemory}
 use Rattle.leveldb_base.specs.History.{Entry}
 use Rattle.leveldb_base.specs.declared.cmp.Cmp.{Ghosts as CmpGhosts}
@@ -32,10 +31,10 @@ use Rattle.rusty_leveldb.specs.Engines.EngineValue.{FollowsStore}
 -- What was logged: tables of memtables, which take no file away, and then at most one edit of a
 -- compaction, which takes one from a level. Where the score of a level asks for a compaction in the
 -- files that those leave, there is one, which takes a file from this level and adds none to it.
-pub record LogsRoom (cmp : List ℕ → List ℕ → Ordering) (old new : VersionSetValue) : Type 0 where
+pub record LogsRoom (old new : VersionSetValue) : Type 0 where
   pub tables_made : VersionSetValue
   pub tables : LogsTableEdits 2 old tables_made
-  pub by_score : LogsByScore cmp tables_made new
+  pub by_score : LogsByScore tables_made new
 
 -- the entries that a write of this batch adds, by what it returns
 abbrev pub entries_added : Result (Unit {0}) Status → List Entry → List Entry
@@ -80,7 +79,7 @@ pub record StoreMakesRoom {E F C FP D P : Type 0} (order : CmpGhosts (InternalKe
   -- and one that was full is empty then, no place is taken in it, and there is no immutable one
   pub empties : OnOk result (IsFull limit old.mem
       → (new.mem.entries ≡ []) × (new.mem.places ≡ 0) × (new.imm ≡ None))
-  pub logs : OnOk result (IsFull limit old.mem → LogsRoom by.format.order old.set new.set)
+  pub logs : OnOk result (IsFull limit old.mem → LogsRoom old.set new.set)
   -- Err: there is something to do still. The memtable is full, or there is an immutable one, or the
   -- version asks for a compaction; but where memory was out.
   pub left : IfErr result (λ e. IsFull limit new.mem ⊎ (new.imm ≢ None)

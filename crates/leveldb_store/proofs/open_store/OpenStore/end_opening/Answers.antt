@@ -27,5 +27,5 @@ returns-clause-ends g c =
     let ordered = ap (λ (v : OpenStoreValue g.row.C.Denot). g.C.Cmp.cmp v.cmp) done.compacts.memory ∙ sym order in
     ends_well _ g.E.Env _ _ c.args.self.now c.args.env.now c.args.tables.now c.requires.usable kept.keeps_files c.keep_damaged_files.new.env looked.keeps looked.later looked.damaged
     c.compact_if_asked-compacted.result new c.compact_if_asked-compacted.new.env c.compact_if_asked-compacted.new.tables
-    done.compacts (rw (← order) at done.asked.by_score) done.asked.err done.keeps.breaks (c.is_broken.ensures.0 c.if-is_broken.false)
+    done.compacts done.asked.by_score done.asked.err done.keeps.breaks (c.is_broken.ensures.0 c.if-is_broken.false)
     c.tidy_up.new.env c.tidy_up.new.tables (rw ordered at c.tidy_up.ensures.tidies) c.tidy_up.ensures.closes c.tidy_up.ensures.time

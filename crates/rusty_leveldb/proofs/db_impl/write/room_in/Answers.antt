@@ -38,7 +38,7 @@ returns-clause-makes g c =
     c.compact_if_asked.new.tables c.compact_if_asked.ensures.compacts)
     (ap g.C.Cmp.cmp made.makes.rest.cmp ∙ sym c.requires.order)
     (subst (λ (s : OpenStoreValue g.row.C.Denot). OnOk c.compact_if_asked.result
-    (LogsByScore (g.C.Cmp.cmp s.cmp) s.set c.compact_if_asked.new.self.set)) charged
+    (LogsByScore s.set c.compact_if_asked.new.self.set)) charged
     c.compact_if_asked.ensures.asked.by_score) c.compact_if_asked.ensures.asked.asks
     c.charge.new.store charged
     (subst (λ (s : OpenStoreValue g.row.C.Denot). CompactsOnceAtMost (g.C.Cmp.cmp s.cmp)

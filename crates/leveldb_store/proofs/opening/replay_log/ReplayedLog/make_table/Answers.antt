@@ -1,5 +1,6 @@
 use Rattle.std.proofs.Common.{◌∙◌, sym}
 use Rattle.std.proofs.lemmas.Result.{err_from_is_err_and}
+use Rattle.leveldb_base.specs.CmpLaws.{total_order}
 use Rattle.leveldb_store.proofs.Logs.ReplayLogLemmas.{MakesRestTable-done, MakesRestTable-unbuilt, MakesRestTable-unlisted}
 use Rattle.leveldb_store.proofs.opening.replay_log.ReplayedLog.make_table.Goals as goal
 
@@ -23,5 +24,6 @@ pub returns : goal.returns
 returns g c = record {
   makes = rw c.in_ok-number.ensures.ok (MakesRestTable-done g.E.Env _ c.args.self.now c.args.versions.now c.in_ok-number.ensures.fits c.args.store.now c.in_ok-number.number
       c.requires.store c.in_ok-number.ensures.number c.in_ok-file.file c.in_ok-file.ensures.makes c.requires.some c.build_memtable.ensures.entries c.push.new.self c.new.result
-      c.in_ok-push.ensures.items c.new.ensures.entries c.new.ensures.places (c.new.ensures.cmp ∙ sym c.requires.order));
+      c.in_ok-push.ensures.items c.new.ensures.entries c.new.ensures.places (c.new.ensures.cmp ∙ sym c.requires.order)
+      (total_order (g.met.C.Cmp.preorder c.args.options.now.cmp) (g.met.C.UserCmp.accepts_all c.args.options.now.cmp)) c.build_memtable.ensures.rising);
 }
