@@ -3,7 +3,7 @@ use super::lists::{joined, pair_word, word_of};
 use leveldb_base::cmp::DefaultCmp;
 use leveldb_base::error::{Result, StatusCode};
 use leveldb_base::names::parse_file_name;
-use leveldb_base::types::{FileType, LdbIterator, MAX_SEQUENCE_NUMBER};
+use leveldb_base::types::{FileMetaData, FileType, LdbIterator, MAX_SEQUENCE_NUMBER};
 use leveldb_disks::mem_env::{MemEnv, RecordEnv};
 use leveldb_env::env::Env;
 use leveldb_env::infolog::Logger;
@@ -11,8 +11,9 @@ use leveldb_mem::log::{LogWriter, read_log_file};
 use leveldb_mem::memtable::MemTable;
 use leveldb_mem::write_batch::WriteBatch;
 use leveldb_repair::found_logs::found_logs;
-use leveldb_repair::numbers::greatest_number;
+use leveldb_repair::numbers::{greatest_in_folder, greatest_number};
 use leveldb_store::opening::listing::list_files;
+use leveldb_version::version_edit::VersionEdit;
 use std::alloc::Global;
 use std::process::Abort;
 use support::{Lines, OnlyReads, Random, ShortReads, change_byte, failed_with, put_file};
@@ -495,5 +496,123 @@ fn the_greatest_number_is_of_all_names(rt: HostRuntime) -> Result<()> {
         let files = list_files(alloc, &mut env, "db")?;
         assert!(rt; greatest_number(&files) == wanted, "{wanted}");
     }
+    Ok(())
+}
+
+/// Numbers that an edit has: its log's, the one before, the next file's, and that of a file that it
+/// adds.
+type Numbers = (Option<u64>, Option<u64>, Option<u64>, Option<u64>);
+
+/// The record of an edit with these numbers.
+fn edit_record(alloc: Global, numbers: Numbers) -> Result<Vec<u8>> {
+    let mut edit = VersionEdit::new(alloc);
+    edit.log_number = numbers.0;
+    edit.prev_log_number = numbers.1;
+    edit.next_file_number = numbers.2;
+    if let Some(number) = numbers.3 {
+        let mut file = FileMetaData::default();
+        file.num = number;
+        edit.add_file(1, file)?;
+    }
+    edit.encode(alloc)
+}
+
+/// A manifest of these records.
+fn manifest_of(alloc: Global, records: &[Vec<u8>]) -> Result<Vec<u8>> {
+    let mut writer = LogWriter::new(alloc, Vec::new(alloc));
+    for record in records {
+        writer.add_record(record)?;
+    }
+    Ok(writer.sink)
+}
+
+/// The greatest number of a folder with a log of number 3 and a manifest of these bytes.
+fn greatest_with(alloc: Global, manifest: &[u8]) -> Result<u64> {
+    let mut env = MemEnv::new(alloc);
+    put_file(alloc, &mut env, "000003.log", b"")?;
+    put_file(alloc, &mut env, "MANIFEST-000001", manifest)?;
+    let files = list_files(alloc, &mut env, "db")?;
+    greatest_in_folder(alloc, &mut env, "db", &files)
+}
+
+#[test]
+fn the_greatest_number_is_of_manifests_too(rt: HostRuntime) -> Result<()> {
+    let alloc = rt.alloc();
+    for (numbers, wanted) in [
+        ((None, None, None, None), 3),
+        ((Some(2), Some(0), Some(4), Some(1)), 3),
+        ((Some(40), None, None, None), 40),
+        ((None, Some(41), None, None), 41),
+        ((None, None, Some(43), None), 42),
+        ((None, None, Some(0), None), 3),
+        ((None, None, None, Some(44)), 44),
+        ((Some(5), Some(6), Some(9), Some(7)), 8),
+        ((Some(u64::MAX), None, None, None), u64::MAX),
+    ] {
+        let mut records = Vec::new(alloc);
+        records.push(edit_record(alloc, numbers)?)?;
+        records.push(edit_record(alloc, (Some(1), None, Some(2), None))?)?;
+        let greatest = greatest_with(alloc, &manifest_of(alloc, &records)?)?;
+        assert!(rt; greatest == wanted, "{numbers:?}: {greatest}");
+    }
+    Ok(())
+}
+
+/// A manifest is read up to its first bad end, and not at all if one of its records is no edit.
+#[test]
+fn manifests_are_read_to_their_first_bad_end(rt: HostRuntime) -> Result<()> {
+    let alloc = rt.alloc();
+    let mut records = Vec::new(alloc);
+    records.push(edit_record(alloc, (Some(10), None, None, None))?)?;
+    records.push(edit_record(alloc, (Some(20), None, None, None))?)?;
+    let whole = manifest_of(alloc, &records)?;
+    for (cut, wanted) in [
+        (whole.len(), 20),
+        (whole.len() - 1, 10),
+        (9, 10),
+        (8, 3),
+        (0, 3),
+    ] {
+        let greatest = greatest_with(alloc, &whole[..cut])?;
+        assert!(rt; greatest == wanted, "{cut}: {greatest}");
+    }
+    let mut changed = Vec::from_slice(alloc, &whole)?;
+    change_byte(&mut changed, 8, 1);
+    assert!(rt; greatest_with(alloc, &changed)? == 3);
+    let mut no_edit = Vec::new(alloc);
+    no_edit.push(edit_record(alloc, (Some(10), None, None, None))?)?;
+    no_edit.push(Vec::from_slice(alloc, b"x")?)?;
+    no_edit.push(edit_record(alloc, (Some(30), None, None, None))?)?;
+    assert!(rt; greatest_with(alloc, &manifest_of(alloc, &no_edit)?)? == 3);
+    Ok(())
+}
+
+/// Each call of the device that reads manifests may fail.
+#[test]
+fn reading_manifests_may_fail(rt: HostRuntime) -> Result<()> {
+    let alloc = rt.alloc();
+    let mut records = Vec::new(alloc);
+    records.push(edit_record(alloc, (Some(10), None, None, None))?)?;
+    let mut failures = 0;
+    for call in 1..100 {
+        let mut env = RecordEnv::new(alloc);
+        put_file(
+            alloc,
+            &mut env,
+            "MANIFEST-000001",
+            &manifest_of(alloc, &records)?,
+        )?;
+        let files = list_files(alloc, &mut env, "db")?;
+        env.fail(call, false);
+        let first = greatest_in_folder(alloc, &mut env, "db", &files);
+        if first.is_ok() {
+            break;
+        }
+        assert!(rt; failed_with(first, StatusCode::IOError)?, "call {call}");
+        let again = greatest_in_folder(alloc, &mut env, "db", &files)?;
+        assert!(rt; again == 10, "call {call}: {again}");
+        failures += 1;
+    }
+    assert!(rt; failures > 2 && failures < 98, "{failures} failures");
     Ok(())
 }

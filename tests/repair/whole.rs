@@ -66,9 +66,10 @@ fn all_entries_are_found_once(rt: HostRuntime) -> Result<()> {
     env.delete("db/CURRENT")?;
     env.delete("db/MANIFEST-000006")?;
     put_logs(alloc, &mut env, &[("000011.log", &[Batch(5, "a", "c")])])?;
+    // the manifest of the first repair names its next log, 16, which isn't there
     for wanted in [
         "6 16: 5a=5 3a- 1a=1 2b=1 6c- 4c=4",
-        "6 20: 5a=5 3a- 1a=1 2b=1 6c- 4c=4",
+        "6 21: 5a=5 3a- 1a=1 2b=1 6c- 4c=4",
     ] {
         repair(alloc, &mut env)?;
         let text = repaired(alloc, &mut env)?;

@@ -338,8 +338,9 @@ fn a_compressor_that_is_not_set(rt: HostRuntime) -> Result<()> {
 
 // ---- crashes and failures
 
-/// A recording disk with a store whose one live table, with a and b, is lost, and c is in a log.
-fn with_lost_table(rt: &impl Abort, alloc: Global) -> Result<RecordEnv> {
+/// A recording disk with a store whose one live table, with a and b, is lost, and c is in a log; and
+/// the table's path.
+fn with_lost_table(rt: &impl Abort, alloc: Global) -> Result<(RecordEnv, String)> {
     let mut env = RecordEnv::new(alloc);
     for (key, value) in PAIRS {
         let mut engine = Engine::open(alloc, STORE, &mut env, DefaultOptions::default())?;
@@ -349,16 +350,26 @@ fn with_lost_table(rt: &impl Abort, alloc: Global) -> Result<RecordEnv> {
     }
     put_all(alloc, &mut env, reusing(true, true), &[("c", "3")])?;
     let names = env.children(alloc, STORE)?;
-    let mut tables: usize = 0;
+    let mut lost = String::new(alloc);
     for name in &names {
         if name.as_str().ends_with(".ldb") {
-            let path = format!(in alloc; "db/{name}")?;
-            env.delete(&path)?;
-            tables += 1;
+            assert!(rt; lost.is_empty());
+            lost = format!(in alloc; "db/{name}")?;
         }
     }
-    assert!(rt; tables == 1);
-    Ok(env)
+    env.delete(&lost)?;
+    Ok((env, lost))
+}
+
+/// The number of a lost table isn't given to another by a repair: the manifest names it.
+#[test]
+fn the_number_of_a_lost_table(rt: HostRuntime) -> Result<()> {
+    let alloc = rt.alloc();
+    let (mut env, lost) = with_lost_table(&rt, alloc)?;
+    mend(alloc, &mut env)?;
+    assert!(rt; !env.exists(&lost)?, "{lost}");
+    assert!(rt; map_of(alloc, &mut env)?.as_str() == " c=3");
+    Ok(())
 }
 
 /// A repair that is cut short over a store whose live table is lost: while `CURRENT` is as it was,
@@ -366,7 +377,7 @@ fn with_lost_table(rt: &impl Abort, alloc: Global) -> Result<RecordEnv> {
 #[test]
 fn crashes_where_a_live_table_was_lost(rt: HostRuntime) -> Result<()> {
     let alloc = rt.alloc();
-    let mut env = with_lost_table(&rt, alloc)?;
+    let (mut env, _) = with_lost_table(&rt, alloc)?;
     let opened = reopen(alloc, &mut env, Options::default());
     assert!(rt; failed_with(opened, StatusCode::Corruption)?);
     let current = file_bytes(alloc, &mut env, "CURRENT")?;

@@ -41,10 +41,10 @@ use Rattle.leveldb_repair.specs.declared.found_logs.memtables.Memtables.{Memtabl
 
 -- ---- one file
 
-alone : (P : ListedFile → Type 0) (file : ListedFile) → P file → Any P (file ∷ [])
+pub alone : (P : ListedFile → Type 0) (file : ListedFile) → P file → Any P (file ∷ [])
 alone P file has = (0, file, omega arith, refl, has)
 
-alone_is : (P : ListedFile → Type 0) (file : ListedFile) → Any P (file ∷ []) → P file
+pub alone_is : (P : ListedFile → Type 0) (file : ListedFile) → Any P (file ∷ []) → P file
 alone_is P file (k, other, inside, is, has) = ⊎_elim
     (λ (same : file ≡ other). subst P (sym same) has)
     (λ (none : Contains [] other). absurd (in_none other none))

@@ -19,6 +19,7 @@ pub mod RepairClashLemmas
 pub mod RepairMergeLemmas
 pub mod RepairFoundClashLemmas
 pub mod RepairNumbersLemmas
+mod ManifestNumbersLemmas
 pub mod RepairBearsLemmas
 pub mod RepairChildrenLemmas
 pub mod RepairFailsLemmas

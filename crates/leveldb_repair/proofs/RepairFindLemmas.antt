@@ -26,6 +26,7 @@ use Rattle.leveldb_table.specs.TableLaws.{DecodesMore}
 use Rattle.leveldb_files.specs.Stores.Batches.{Each}
 use Rattle.leveldb_files.specs.Stores.Format.{Meaning}
 use Rattle.leveldb_version_set.specs.Repairs.Found.{HasNoTableNorLog, IsAnyTable}
+use Rattle.leveldb_version_set.specs.Repairs.Repairing.{IsGreatestInFolder}
 use Rattle.leveldb_store.proofs.Openings.ListingLemmas.{entries_listed}
 use Rattle.leveldb_store.proofs.Openings.OpeningFindLemmas.{listed as named, no_slash_in_name}
 use Rattle.leveldb_store.specs.Tables.BuildTable.{TableChoices}
@@ -35,13 +36,12 @@ use Rattle.leveldb_store.specs.Openings.OpensStore.{IsBareFolder}
 use Rattle.leveldb_store.specs.Logs.ReplayLog.{HasCauseOr}
 use Rattle.leveldb_store.specs.declared.opening.listing.ListedFile.{ListedFile}
 use Rattle.leveldb_repair.proofs.RepairFailsLemmas.{fails_earlier, fails_weaker}
-use Rattle.leveldb_repair.proofs.RepairNumbersLemmas.{greatest_in_folder}
 use Rattle.leveldb_repair.proofs.RepairStoreLemmas.{decodes_by, leaves_then, why_before}
 use Rattle.leveldb_repair.specs.FoundLogs.{FindsLogs, HaveEntry, IsInLog, WhyNotFound}
 use Rattle.leveldb_repair.specs.FoundTables.{AreFoundTables, FindsTables, IsInTable, IsNewWalkOver, IsTablePair, WhyNoTables, entries_of_lists}
 use Rattle.leveldb_repair.specs.FoundWalkLaws.{found_laws}
 use Rattle.leveldb_repair.specs.FoundWalkTable.{FailsBetweenOr, KeepsFound}
-use Rattle.leveldb_repair.specs.Numbers.{IsGreatestNumber}
+use Rattle.leveldb_repair.specs.Numbers.{FindsGreatest, WhyNoNumbers}
 use Rattle.leveldb_repair.specs.RepairSteps.{AreFoundIn, FindsAll}
 use Rattle.leveldb_repair.specs.RepairStore.{WhyNotBegun}
 use Rattle.leveldb_repair.specs.declared.found_walk.files.ReadFiles.{ReadFiles}
@@ -221,7 +221,23 @@ module _ {E C K F FP : Type 0} {order : CmpGhosts (InternalKeyCmp C)} {filters :
         (fails_weaker env at to status (why_before choices env store from at status same_at)
         cause))
 
-    -- the tables aren't found
+    -- the numbers aren't found
+    why_no_greatest : (status : Status) → WhyNoNumbers env store at listed status → WhyAt status
+    why_no_greatest status (code, missing) = inr (inr (inr (inr (
+      inl code,
+      λ modelled.
+          let one = missing modelled in
+          absurd (not_missing modelled one.1 (one.0, one.2, one.3) one.4.1),
+    ))))
+
+    pub no_greatest : {to : E} {status : Status}
+        → FindsGreatest env store listed at (Err status) to → Finds (Err status) to
+    no_greatest {to} {status} finds =
+        why_at (leaves_files env {T = ℕ} finds.still finds.locks finds.cause)
+        (fails_weaker env at to status (why_no_greatest status)
+        (cause_between env {T = ℕ} finds.cause))
+
+    -- nor the tables
     why_no_tables : (codings_are : codings compressors ≡ choices.format.codings)
         → (order_is : cmp.cmp compares ≡ choices.format.order) → (status : Status)
         → WhyNoTables env (codings compressors) (cmp.cmp compares) store
@@ -291,14 +307,18 @@ module _ {E C K F FP : Type 0} {order : CmpGhosts (InternalKeyCmp C)} {filters :
 
   module _ (codings_are : codings compressors ≡ choices.format.codings)
       (order_is : cmp.cmp compares ≡ choices.format.order) {listed : List ListedFile}
-      {first : E} (leaves : LeavesFiles env from first)
+      {at first : E} (listing : LeavesFiles env from at)
       (are : AreFilesIn env store from listed)
       (some : Any (λ (file : ListedFile). (file.kind ≡ Table) ⊎ (file.kind ≡ Log)) listed)
-      {greatest : ℕ} (greatest_is : IsGreatestNumber listed greatest)
+      {greatest : ℕ} (numbers : FindsGreatest env store listed at (Ok greatest) first)
       {tables : Vec (FoundTable E C F) Global} {second : E}
       (finds : FindsTables order env cmp codings compressors compares store listed first (Ok tables)
       second) {logs : Vec (MemTableState C) Global} {to : E}
       (finds_logs : FindsLogs env store compares listed second (Ok logs) to) where
+    leaves : LeavesFiles env from first
+    leaves = leaves_then env listing
+        (leaves_files env {T = ℕ} numbers.still numbers.locks numbers.cause)
+
     after_tables : LeavesFiles env from second
     after_tables = leaves_then env leaves (leaves_files env {T = Vec (FoundTable E C F) Global}
         finds.still finds.locks finds.cause)
@@ -377,10 +397,11 @@ module _ {E C K F FP : Type 0} {order : CmpGhosts (InternalKeyCmp C)} {filters :
       leaves = leaves_then env after_tables after_logs;
       ok = record {
         listed = listed;
-        greatest_is = greatest_is;
+        above = numbers.above;
         ordered = finds_logs.order;
         repairs = λ modelled. record {
-          taken_is = greatest_in_folder env store from listed greatest modelled are greatest_is;
+          taken_is = subst (λ (fs : Files). IsGreatestInFolder store fs greatest)
+              (same_at listing are modelled) (numbers.greatest modelled (are_at listing are));
           some = listed_some env store modelled are some;
         };
         are = are_in;

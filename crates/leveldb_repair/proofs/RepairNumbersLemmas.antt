@@ -1,5 +1,5 @@
--- The numbers of a repair's tables, and that these are the tables of a repaired store; and the
--- greatest number of a folder.
+-- The numbers of a repair's tables, and that these are the tables of a repaired store; and a number
+-- that a listed file has.
 use Rattle.std.proofs.Common.{◌≡◌, ◌∙◌, ⊎_elim, inl, inr, ◌<◌, ◌≤◌, ◌+◌, ℕ, false, true, List, [], ◌∷◌, None, ap, arith, map, refl, subst, sym}
 use Rattle.std.proofs.lemmas.Bool.{cases_lt}
 use Rattle.std.proofs.lemmas.List.Elements.{All-contains}
@@ -15,7 +15,7 @@ use Rattle.leveldb_base.specs.declared.cmp.Cmp.{Ghosts as CmpGhosts}
 use Rattle.leveldb_base.specs.declared.types.FileMetaData.{FileMetaData}
 use Rattle.leveldb_base.specs.declared.types.FileType.{FileType}
 use Rattle.leveldb_base.specs.declared.types.FileType.TheVariants.{Log, Table}
-use Rattle.leveldb_env.specs.Env.{Files, ListsChildren, in_folder}
+use Rattle.leveldb_env.specs.Env.{Files, in_folder}
 use Rattle.leveldb_env.specs.declared.env.Env.{Ghosts as EnvGhosts}
 use Rattle.leveldb_env.specs.declared.filter.FilterPolicy.{Ghosts as FilterGhosts}
 use Rattle.leveldb_files.proofs.Stores.ManagedLemmas.{kinds_apart}
@@ -23,16 +23,15 @@ use Rattle.leveldb_files.specs.Stores.Batches.{Each}
 use Rattle.leveldb_version_set.specs.Compactions.Compaction.{files_of_tables}
 use Rattle.leveldb_files.specs.Stores.Format.{Agrees, IsTableOf, Meaning}
 use Rattle.leveldb_files.specs.Levels.Levels.{LiveTable, table_entries}
-use Rattle.leveldb_version_set.specs.Repairs.Repairing.{HasRepairedTables, IsGreatestInFolder}
+use Rattle.leveldb_version_set.specs.Repairs.Repairing.{HasRepairedTables, IsGreatestInFolder, IsNumberOfName}
 use Rattle.leveldb_files.specs.Stores.Store.{IsInternalPair}
 use Rattle.leveldb_files.specs.Steps.StoreSteps.{IsAboveLogs}
 use Rattle.leveldb_files.specs.Edits.Edit.{NewFile}
 use Rattle.leveldb_store.specs.Tables.BuildTable.{TableChoices}
-use Rattle.leveldb_store.specs.Openings.Listing.{AreFilesIn, AreFilesOf, MatchesName}
+use Rattle.leveldb_store.specs.Openings.Listing.{AreFilesIn, MatchesName}
 use Rattle.leveldb_store.specs.Tables.Outputs.{AreNextNumbers, SameButNewTables}
 use Rattle.leveldb_store.specs.declared.opening.listing.ListedFile.{ListedFile}
 use Rattle.leveldb_repair.specs.LookOver.{AreLookedOver}
-use Rattle.leveldb_repair.specs.Numbers.{IsGreatestNumber}
 use Rattle.leveldb_repair.specs.WriteFound.{HasWritten, files_of_level_one}
 use Rattle.leveldb_repair.specs.declared.look_over.LookedOver.{LookedOver}
 
@@ -175,44 +174,31 @@ module _ {C FP : Type 0} {order : CmpGhosts C} {filters : FilterGhosts FP}
         };
       }
 
--- ---- the greatest number of a folder
+-- ---- a number that a listed file has
 
--- the greatest number of the files that a folder lists is the greatest that a name there has
-pub greatest_in_folder : {E F : Type 0} (env : EnvGhosts E F) (store : List ℕ) (from : E)
+-- a number of a file that a folder lists is one that a name there has
+pub number_of_name : {E F : Type 0} (env : EnvGhosts E F) (store : List ℕ) (from : E)
     (listed : List ListedFile) (number : ℕ) → IsTrue env.models_disk
-    → AreFilesIn env store from listed → IsGreatestNumber listed number
-    → IsGreatestInFolder store (env.observed from).disk.files number
-greatest_in_folder env store from listed number modelled in_folder_are is = record {
-  below = is.below store (env.observed from).disk.files names lists are;
-  is = ⊎_elim
-      (λ (zero : number ≡ 0). inl zero)
-      (λ (some : Any (λ (file : ListedFile). file.number ≡ number) listed). inr (named some))
-      is.some;
-}
+    → AreFilesIn env store from listed
+    → Any (λ (file : ListedFile). file.number ≡ number) listed
+    → IsNumberOfName store (env.observed from).disk.files number
+number_of_name env store from listed number modelled in_folder_are some = (
+  name,
+  file.kind,
+  subst (λ n. IsFileName name n file.kind) some.4
+      (All-contains MatchesName listed file in_folder_are.2.named there),
+  λ none.
+      let some_there : IsSome ((env.observed from).disk.files (in_folder store name)) =
+      (((in_folder_are.1 modelled).each name).0 (in_folder_are.2.there name
+      (map_in (λ (one : ListedFile). string_bytes one.name) listed file there))).1 in
+      let never : false ≡ true = subst IsSome none some_there in cc,
+)
   where
-    names : List (List ℕ)
-    names = in_folder_are.0
+    file : ListedFile
+    file = some.1
 
-    lists : ListsChildren (env.observed from).disk.files store names
-    lists = in_folder_are.1 modelled
+    there : Contains listed file
+    there = (some.0, some.2, some.3)
 
-    are : AreFilesOf names listed
-    are = in_folder_are.2
-
-    named : Any (λ (file : ListedFile). file.number ≡ number) listed
-        → (name : List ℕ) × (kind : FileType) × IsFileName name number kind
-        × ((env.observed from).disk.files (in_folder store name) ≢ None)
-    named some =
-        let file = some.1 in
-        let there : Contains listed file = (some.0, some.2, some.3) in
-        let name = string_bytes file.name in (
-          name,
-          file.kind,
-          subst (λ n. IsFileName name n file.kind) some.4
-              (All-contains MatchesName listed file are.named there),
-          λ none.
-              let some_there : IsSome ((env.observed from).disk.files (in_folder store name)) =
-              ((lists.each name).0 (are.there name
-              (map_in (λ (one : ListedFile). string_bytes one.name) listed file there))).1 in
-              let never : false ≡ true = subst IsSome none some_there in cc,
-        )
+    name : List ℕ
+    name = string_bytes file.name

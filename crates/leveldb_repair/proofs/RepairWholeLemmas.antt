@@ -145,9 +145,9 @@ module _ {E C K F FP : Type 0} {order : CmpGhosts (InternalKeyCmp C)} {filters :
     listed_below : All (λ (file : ListedFile). file.number < read.below) has.listed
     listed_below = all_from_contains (λ (file : ListedFile). file.number < read.below) has.listed
         (λ file there.
-        let greatest_is = has.greatest_is in
+        let above = has.above in
         let least = All-contains (λ (one : ListedFile). one.number ≤ found.greatest) has.listed file
-        greatest_is.above there in
+        above there in
         omega (arith, below, least))
 
     tables_over : (walks : List (FoundTable E C F)) (lists : List (List Pair))

@@ -1,6 +1,6 @@
 -- The steps of a repair: the lists of pairs that have all that is found, walks over them, and what
 -- is made of these.
-use Rattle.std.specs.Prelude.{◌≡◌, ◌↔◌, ◌+◌, ◌<◌, ◌^◌, ℕ, List, All, Contains, Result, IfErr, IfOk, IsTrue}
+use Rattle.std.specs.Prelude.{◌≡◌, ◌↔◌, ◌+◌, ◌<◌, ◌≤◌, ◌^◌, ℕ, List, All, Contains, Result, IfErr, IfOk, IsTrue}
 use Rattle.leveldb_base.specs.Entries.{entries_of_pairs}
 use Rattle.leveldb_base.specs.History.{AreRising, Entry}
 use Rattle.leveldb_base.specs.KeyTypes.{internal_cmp}
@@ -34,7 +34,6 @@ use Rattle.leveldb_repair.specs.FoundTables.{AreNumberedPairs, IsInTable, IsNewW
 use Rattle.leveldb_repair.specs.FoundWalk.{IsWalkOver}
 use Rattle.leveldb_repair.specs.FoundWalkTable.{FailsBetweenOr, MakesFrom}
 use Rattle.leveldb_repair.specs.LookOver.{AreLookedOver, IsOverMerges}
-use Rattle.leveldb_repair.specs.Numbers.{IsGreatestNumber}
 use Rattle.leveldb_repair.specs.RepairStore.{IsFoundPair, WhyNotBegun}
 use Rattle.leveldb_repair.specs.FoundWalkOf.{FoundWalk}
 use Rattle.leveldb_repair.specs.declared.found_walk.files.ReadFiles.{ReadFiles}
@@ -44,7 +43,7 @@ use Rattle.leveldb_repair.specs.declared.repair_store.find.Found.{Found}
 
 -- ---- lists of pairs
 
--- A table or a log is in the folder, in whose names this is the greatest number.
+-- A table or a log is in the folder, in whose names and manifests this is the greatest number.
 pub record IsToRepair (store : List ℕ) (files : Files) (taken : ℕ) : Type 0 where
   pub taken_is : IsGreatestInFolder store files taken
   pub some : HasNoTableNorLog store files → ⊥
@@ -167,11 +166,11 @@ module _ {E C K F FP : Type 0} {order : CmpGhosts (InternalKeyCmp C)} {filters :
 module _ {E C K F FP : Type 0} {order : CmpGhosts (InternalKeyCmp C)} {filters : FilterGhosts FP}
     (choices : TableChoices order filters) (env : EnvGhosts E F) (cmp : CmpGhosts C)
     (codings : K → Codings) (compressors : K) (compares : C) (store : List ℕ) where
-  -- What is found of the files of the folder: the greatest number of a name, walks over the tables,
-  -- and memtables, in this order of users' keys.
+  -- What is found of the files of the folder: the greatest number of a name or in a manifest, walks
+  -- over the tables, and memtables, in this order of users' keys.
   pub record HasFound (from to : E) (found : Found E C F) : Type 0 where
     pub listed : List ListedFile
-    pub greatest_is : IsGreatestNumber listed found.greatest
+    pub above : All (λ (file : ListedFile). file.number ≤ found.greatest) listed
     pub ordered : All (λ (table : MemTableState C). table.cmp ≡ compares) found.logs.items
     pub repairs : IsTrue env.models_disk
         → IsToRepair store (env.observed from).disk.files found.greatest

@@ -40,7 +40,7 @@ module _ (store : List ℕ) (format : Format) (meaning : Meaning) (old : Files) 
   -- The new files are what a repair of the old ones left: a store of tables that have exactly the
   -- entries that were found.
   pub record HoldsAllFound (new : Files) : Type 0 where
-    -- the greatest number that a name in the folder had
+    -- the greatest number that a name in the folder had, or that a manifest there named
     pub taken : ℕ
     -- the number after the last one that a table took
     pub next : ℕ
@@ -129,7 +129,7 @@ module _ (store : List ℕ) (files : Files) where
         → IsFound store (IsAnyTable format.order meaning) files entry
 
   -- So many pairs are found that 64 bits don't have a number for a table of each, and three more,
-  -- above those of all names: the manifest's, the next log's, and one after it.
+  -- above those of all names and manifests: the manifest's, the next log's, and one after it.
   pub record AreTooManyFound (format : Format) : Type 0 where
     pub taken : ℕ
     pub taken_is : IsGreatestInFolder store files taken
@@ -147,8 +147,8 @@ module _ (store : List ℕ) (files : Files) where
   abbrev pub HasLargeBatchInLog : Type 0
   HasLargeBatchInLog = (file : ListedFile) × MatchesName file × HasLargeBatch store files file
 
-  -- 64 bits don't have three numbers above those of all names: the manifest's, the next log's, and
-  -- one after it
+  -- 64 bits don't have three numbers above those of all names and manifests: the manifest's, the
+  -- next log's, and one after it
   abbrev pub HasTooFewNumbers : Type 0
   HasTooFewNumbers = (taken : ℕ) × IsGreatestInFolder store files taken × (2 ^ 64 ≤ taken + 3)
 

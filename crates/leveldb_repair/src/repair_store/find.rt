@@ -9,7 +9,7 @@ ghost use Rattle.leveldb_store.specs.declared.opening.listing.ListedFile.{Listed
 use crate::found_logs::found_logs;
 use crate::found_tables::found_tables;
 use crate::found_walk::FoundTable;
-use crate::numbers::greatest_number;
+use crate::numbers::greatest_in_folder;
 use leveldb_base::cmp::{Cmp, InternalKeyCmp, UserCmp};
 use leveldb_base::error::{Result, StatusCode, err};
 use leveldb_base::types::{FileNum, FileType};
@@ -28,7 +28,7 @@ pub(super) struct Found<E: Env, C: UserCmp + Copy + Drop>
 where
     InternalKeyCmp<C>: Cmp,
 {
-    // the greatest number of a name
+    // the greatest number of a name or in a manifest
     pub(super) greatest: FileNum,
     // walks over the readable tables
     pub(super) tables: Vec<FoundTable<E, C>>,
@@ -58,7 +58,7 @@ pub(super) fn find<E: Env, C: UserCmp + Copy + Drop, FP: FilterPolicy + Copy + D
             "neither a table nor a log is there",
         );
     }
-    let greatest = greatest_number(files);
+    let greatest = greatest_in_folder(alloc, env, store, files)?;
     let cmp = options.cmp;
     let compressors = &options.compressor_list;
     let tables = found_tables(alloc, env, store, cmp, files, compressors, log)?;

@@ -26,7 +26,8 @@ use leveldb_version::version_edit::VersionEdit;
 use leveldb_version_set::version_set::{VersionSet, make_manifest_of};
 use std::alloc::Global;
 
-// What a store is made with: its folder and options, and the greatest number of a name there.
+// What a store is made with: its folder and options, and the greatest number of a name or in a
+// manifest there.
 #[derive(Drop)]
 pub(super) struct RepairPlan<'a, C: UserCmp + Copy + Drop, FP: FilterPolicy + Copy + Drop> {
     pub(super) alloc: Global,

@@ -1,15 +1,15 @@
 -- What a repair makes of the files in a store's folder, and what it leaves as it was: what the
 -- folder holds meanwhile and then, and what is found in it. The statements here are those that the
 -- contracts of module `laws::repairing` name.
-use Rattle.std.specs.Prelude.{◌≡◌, ◌≢◌, ◌⊎◌, ◌<◌, ◌≤◌, ◌+◌, ◌^◌, ◌↔◌, false, ℕ, List, [], ◌∷◌, map, None, Some, Contains}
-use Rattle.std.specs.Option.{option_map}
+use Rattle.std.specs.Prelude.{◌≡◌, ◌≢◌, ◌⊎◌, ◌<◌, ◌≤◌, ◌+◌, ◌-◌, ◌^◌, ◌↔◌, false, ℕ, List, [], ◌∷◌, flat_map, map, None, Some, Contains}
+use Rattle.std.specs.Option.{option_map, unwrap_or}
 use Rattle.std.specs.Str.{bytes_eq}
 use Rattle.std.specs.declared.cmp.Ordering.{Ordering}
 use Rattle.leveldb_base.specs.History.{AreAbove, Entry, SameView, greatest}
 use Rattle.leveldb_base.specs.Names.{IsFileName, file_name}
 use Rattle.leveldb_base.specs.Types.{Pair}
 use Rattle.leveldb_base.specs.declared.types.FileType.{FileType}
-use Rattle.leveldb_base.specs.declared.types.FileType.TheVariants.{Log, Table}
+use Rattle.leveldb_base.specs.declared.types.FileType.TheVariants.{Descriptor, Log, Table}
 use Rattle.leveldb_env.specs.Env.{File, Files, FilesCrashTo, bytes_of, in_folder, kept_file, or_empty}
 use Rattle.leveldb_mem.specs.WriteBatch.{Batch}
 use Rattle.leveldb_version_set.specs.Compactions.Compaction.{AreKnownByNumber, files_of_tables}
@@ -21,7 +21,7 @@ use Rattle.leveldb_version_set.specs.Repairs.Found.{AreFound, HasNoTableNorLog, 
 use Rattle.leveldb_files.specs.Levels.Levels.{AreDisjoint, LiveTable, table_entries}
 use Rattle.leveldb_version_set.specs.Sets.NewManifest.{MakingManifest, manifest_bytes, with_manifest}
 use Rattle.leveldb_files.specs.Stores.Paths.{current_path, lock_path, manifest_path, table_path}
-use Rattle.leveldb_files.specs.Stores.Store.{HasTable, IsManaged, LogIsReplayed, SameEntries}
+use Rattle.leveldb_files.specs.Stores.Store.{HasTable, IsManaged, IsManifest, LogIsReplayed, SameEntries}
 use Rattle.leveldb_files.specs.Steps.StoreLaws.{StoreHolds}
 use Rattle.leveldb_files.specs.Steps.StoreStays.{HasKeptEdits}
 use Rattle.leveldb_files.specs.Steps.StoreSteps.{IsAboveLogs, IsAllKept, IsKept, KeepsHistory}
@@ -56,17 +56,43 @@ repaired_contents comparator tables last = record {
   last = last;
 }
 
--- ---- while it is made
+-- ---- numbers that are taken
 
--- this is the greatest number that a name in the folder has, or 0 where none has one
+-- the numbers that an edit names: those of its logs, the one before the next file's, and those of
+-- the files that it adds; 0 where it sets none
+abbrev pub numbers_in : Edit → List ℕ
+numbers_in edit =
+    unwrap_or edit.log_number 0 ∷ unwrap_or edit.previous_log 0
+    ∷ (unwrap_or edit.next_file 0 - 1) ∷ map (λ file. file.number) edit.added
+
+-- the file is a manifest that can be read, an edit of which names the number
+abbrev pub IsNumberIn : File → ℕ → Type 0
+IsNumberIn file n =
+    (edits : List Edit) × IsManifest file edits × Contains (flat_map numbers_in edits) n
+
+-- a name in the folder has the number
+abbrev pub IsNumberOfName : List ℕ → Files → ℕ → Type 0
+IsNumberOfName store files n = (name : List ℕ) × (kind : FileType) × IsFileName name n kind
+    × (files (in_folder store name) ≢ None)
+
+-- a manifest in the folder names it
+abbrev pub IsNumberInManifest : List ℕ → Files → ℕ → Type 0
+IsNumberInManifest store files n = (name : List ℕ) × (number : ℕ)
+    × IsFileName name number Descriptor × (file : File)
+    × (files (in_folder store name) ≡ Some file) × IsNumberIn file n
+
+-- this is the greatest number that a name in the folder has or a manifest there names, or 0 where
+-- there is none
 pub record IsGreatestInFolder (store : List ℕ) (files : Files) (number : ℕ) : Type 0 where
   pub below : NumbersAreBelow store files (number + 1)
-  pub is : (number ≡ 0) ⊎ ((name : List ℕ) × (kind : FileType) × IsFileName name number kind
-      × (files (in_folder store name) ≢ None))
+  pub named : (n : ℕ) → IsNumberInManifest store files n → n ≤ number
+  pub is : (number ≡ 0) ⊎ IsNumberOfName store files number ⊎ IsNumberInManifest store files number
 
--- A repair of the old files is being made, in whose names `taken` is the greatest number. No file
--- has changed but the manifest of the number after it, with its temporary file, the tables of the
--- numbers after that and below the next, `CURRENT` and the lock's file.
+-- ---- while it is made
+
+-- A repair of the old files is being made, in whose names and manifests `taken` is the greatest
+-- number. No file has changed but the manifest of the number after it, with its temporary file, the
+-- tables of the numbers after that and below the next, `CURRENT` and the lock's file.
 pub record IsAmidRepair (store : List ℕ) (taken next : ℕ) (old now : Files) : Type 0 where
   pub taken_is : IsGreatestInFolder store old taken
   pub others : (path : List ℕ)

@@ -12,17 +12,17 @@ use Rattle.leveldb_base.specs.Types.{Pair}
 use Rattle.leveldb_base.specs.declared.cmp.Cmp.{Ghosts as CmpGhosts}
 use Rattle.leveldb_base.specs.declared.error.Status.{Status}
 use Rattle.leveldb_base.specs.declared.types.FileType.{FileType}
-use Rattle.leveldb_base.specs.declared.types.FileType.TheVariants.{DBLock, Log, Table}
+use Rattle.leveldb_base.specs.declared.types.FileType.TheVariants.{DBLock, Descriptor, Log, Table}
 use Rattle.std.specs.Option.{option_map}
 use Rattle.leveldb_env.specs.Env.{BeforeOrAfter, File, Files, SameBut, bytes_of, created, in_folder, or_empty}
 use Rattle.leveldb_env.specs.declared.filter.FilterPolicy.{Ghosts as FilterGhosts}
 use Rattle.leveldb_env.proofs.EnvLemmas.{SameBut-created}
 use Rattle.leveldb_version_set.proofs.Repairs.FoundLemmas.{found_goes_by_bytes}
-use Rattle.leveldb_files.proofs.Stores.ManagedLemmas.{numbers_apart}
+use Rattle.leveldb_files.proofs.Stores.ManagedLemmas.{kinds_apart, numbers_apart}
 use Rattle.leveldb_files.specs.Stores.Format.{Format, Meaning}
 use Rattle.leveldb_version_set.specs.Repairs.Found.{AreFound, HasNoTableNorLog, IsAnyTable, IsFound}
 use Rattle.leveldb_files.specs.Stores.Paths.{current_path, lock_path}
-use Rattle.leveldb_version_set.specs.Repairs.Repairing.{IsGreatestInFolder, IsAmidRepair, SameTablesAndLogs}
+use Rattle.leveldb_version_set.specs.Repairs.Repairing.{IsAmidRepair, IsGreatestInFolder, IsNumberInManifest, IsNumberOfName, SameTablesAndLogs}
 use Rattle.leveldb_store.proofs.Keeping.TableKeepsLemmas.{types_apart}
 use Rattle.leveldb_store.specs.Logs.NextFound.{BeginsAt}
 use Rattle.leveldb_store.specs.Tables.BuildTable.{TableChoices}
@@ -67,6 +67,12 @@ module _ (store : List ℕ) (old mid : Files) (but : SameBut (lock_path store) o
       → mid (in_folder store name) ≡ old (in_folder store name)
   same_log name n is = but (in_folder store name) (lock_apart store name n (inr is))
 
+  same_manifest : (name : List ℕ) (n : ℕ) → IsFileName name n Descriptor
+      → mid (in_folder store name) ≡ old (in_folder store name)
+  same_manifest name n is = but (in_folder store name)
+      (kinds_apart store (file_name DBLock 0) name 0 n DBLock Descriptor (refl, refl) is
+      (λ e. let never : DBLock ≡ Descriptor = e in cc))
+
   same_numbered : (name : List ℕ) (n : ℕ) (kind : FileType) → IsFileName name n kind → 0 < n
       → mid (in_folder store name) ≡ old (in_folder store name)
   same_numbered name n kind is more = but (in_folder store name)
@@ -82,19 +88,30 @@ module _ (store : List ℕ) (old mid : Files) (but : SameBut (lock_path store) o
         (λ none. some (sym (same_numbered name k kind is more) ∙ none)))
         (λ (few : k ≤ 0). omega (arith, few))
         (cases_lt 0 k);
+    named = λ k has.
+        g.named k (has.0, has.1, has.2, has.3, same_manifest has.0 has.1 has.2 ∙ has.4, has.5);
     is = ⊎_elim
         (λ (zero : n ≡ 0). inl zero)
-        (λ (found : (name : List ℕ) × (kind : FileType) × IsFileName name n kind
-        × (mid (in_folder store name) ≢ None)). ⊎_elim
-        (λ (more : 0 < n). inr (
+        (λ (one : IsNumberOfName store mid n ⊎ IsNumberInManifest store mid n). ⊎_elim
+        (λ (found : IsNumberOfName store mid n). ⊎_elim
+        (λ (more : 0 < n). inr (inl (
           found.0,
           found.1,
           found.2,
           λ none.
               found.3 (same_numbered found.0 n found.1 found.2 more ∙ none),
-        ))
+        )))
         (λ (few : n ≤ 0). inl (omega (arith, few)))
         (cases_lt 0 n))
+        (λ (has : IsNumberInManifest store mid n). inr (inr (
+          has.0,
+          has.1,
+          has.2,
+          has.3,
+          sym (same_manifest has.0 has.1 has.2) ∙ has.4,
+          has.5,
+        )))
+        one)
         g.is;
   }
 
