@@ -1,7 +1,7 @@
 //! Repairs: what they leave, what is found then, crashes at each of their moments, and calls that fail.
 use super::stores::{
-    DefaultOptions, STORE, buffered, files_of, has_files, map_of, put_all, put_log_of, reopen,
-    reusing,
+    DefaultOptions, STORE, buffered, files_of, has_files, map_of, put_all, put_log, put_log_of,
+    reopen, reusing,
 };
 use leveldb_base::error::{Result, StatusCode};
 use leveldb_disks::mem_env::{MemEnv, Pick, RecordEnv};
@@ -166,11 +166,97 @@ fn entries_that_clash(rt: HostRuntime) -> Result<()> {
     put_small(alloc, &mut env, false)?;
     put_log_of(alloc, &mut env, "000006.log", &[(1, "a", "9")])?;
     stays(&rt, alloc, &mut env, StatusCode::Corruption)?;
+    assert!(rt; names_clash(alloc, &mut env, "db/000005.ldb and db/000006.log have", "one of them")?);
     lose_manifest(&mut env)?;
     stays(&rt, alloc, &mut env, StatusCode::Corruption)?;
     env.delete("db/000005.ldb")?;
     mend(alloc, &mut env)?;
     assert!(rt; map_of(alloc, &mut env)?.as_str() == " a=9 b=2");
+    Ok(())
+}
+
+/// Whether the text of a repair's error begins with these files, and says which to set aside.
+fn names_clash<E: Env>(alloc: Global, env: &mut E, files: &str, which: &str) -> Result<bool> {
+    let wanted = format!(in alloc; "Corruption: {files} different pairs of one key: set {which} aside")?;
+    let Err(status) = mend(alloc, env) else {
+        return Ok(false);
+    };
+    let text = status.err.as_ref().map_or("", |text| text.as_str());
+    Ok(status.code == StatusCode::Corruption && text.starts_with(wanted.as_str()))
+}
+
+/// Of many files the two are named that clash, wherever they are among them, and a log that clashes with itself alone.
+#[test]
+fn the_files_that_clash(rt: HostRuntime) -> Result<()> {
+    let alloc = rt.alloc();
+    for first in 1..8 {
+        for second in first..9 {
+            let mut env = MemEnv::new(alloc);
+            for number in 1..9 {
+                let name = format!(in alloc; "00000{number}.log")?;
+                put_log(alloc, &mut env, &name, &[(100 + number, "k")])?;
+            }
+            for (number, value) in [(first, "1"), (second, "2")] {
+                let path = format!(in alloc; "00000{number}.log")?;
+                let mut puts = Vec::new(alloc);
+                if second == first {
+                    puts.push((7, "c", "1"))?;
+                }
+                puts.push((7, "c", value))?;
+                put_log_of(alloc, &mut env, &path, &puts)?;
+            }
+            let (files, which) = if first == second {
+                (format!(in alloc; "db/00000{first}.log has")?, "it")
+            } else {
+                let both = format!(in alloc; "db/00000{first}.log and db/00000{second}.log have")?;
+                (both, "one of them")
+            };
+            assert!(rt; names_clash(alloc, &mut env, &files, which)?, "{first} {second}");
+            let path = format!(in alloc; "db/00000{second}.log")?;
+            env.delete(&path)?;
+            mend(alloc, &mut env)?;
+        }
+    }
+    Ok(())
+}
+
+/// A store whose manifest lost its last edit is opened, and gives a number again that is in a table which was left out. With one of the two files set
+/// aside it is repaired, and shows what the other has.
+#[test]
+fn a_damaged_store_that_was_written(rt: HostRuntime) -> Result<()> {
+    let alloc = rt.alloc();
+    for keeps_old in [false, true] {
+        let mut env = MemEnv::new(alloc);
+        let mut engine = Engine::open(alloc, STORE, &mut env, DefaultOptions::default())?;
+        for (key, value) in PAIRS {
+            engine.put(&mut env, key.as_bytes(), value.as_bytes())?;
+            engine.compact_range(&mut env, b"z", b"z")?;
+        }
+        engine.abandon(&mut env)?;
+        let bytes = file_bytes(alloc, &mut env, "MANIFEST-000001")?;
+        damage_file(alloc, &mut env, "MANIFEST-000001", bytes.len() - 1)?;
+        put_all(alloc, &mut env, DefaultOptions::default(), &[("b", "9")])?;
+        let Err(status) = mend(alloc, &mut env) else {
+            assert!(rt; false, "it was repaired");
+            return Ok(());
+        };
+        let text = status.err.as_ref().map_or("", |text| text.as_str());
+        let lost = if keeps_old { ".log" } else { ".ldb" };
+        let mut aside = 0;
+        for name in &env.children(alloc, STORE)? {
+            if name.as_str().ends_with(lost) && text.contains(name.as_str()) {
+                let path = format!(in alloc; "db/{name}")?;
+                let free = format!(in alloc; "db/{name}.aside")?;
+                env.rename(&path, &free)?;
+                aside += 1;
+            }
+        }
+        assert!(rt; aside == 1, "{text}");
+        mend(alloc, &mut env)?;
+        let map = map_of(alloc, &mut env)?;
+        let wanted = if keeps_old { MAP } else { " a=1 b=9" };
+        assert!(rt; map.as_str() == wanted, "{map}");
+    }
     Ok(())
 }
 

@@ -3,7 +3,7 @@ use Rattle.std.specs.Prelude.{IsTrue, Result}
 use Rattle.std.proofs.Common.{◌≡◌, ◌⊎◌, ◌∙◌, inl, inr, ⊎_elim, ℕ, List, Option, None, Some, Ok, Err, refl, sym, ap, subst, arith}
 use Rattle.leveldb_base.specs.declared.cmp.Cmp.{Ghosts as CmpGhosts}
 use Rattle.leveldb_base.specs.declared.error.Status.{Status}
-use Rattle.leveldb_env.proofs.EnvLemmas.{Run-mono, Run-trans}
+use Rattle.leveldb_env.proofs.EnvLemmas.{Run-mono, Run-trans, begun}
 use Rattle.leveldb_env.specs.Compressor.{Coding, Decodes, decoded_under}
 use Rattle.leveldb_env.specs.Env.{AppendedAreBytes, Files, FilesUnchanged, Run}
 use Rattle.leveldb_env.specs.declared.env.Env.{Ghosts as EnvGhosts}
@@ -16,8 +16,9 @@ use Rattle.leveldb_store.specs.Tables.BuildTable.{TableChoices}
 use Rattle.leveldb_store.specs.Compactions.Merging.{LeavesFiles}
 use Rattle.leveldb_store.specs.Openings.OpensStore.{IsBareFolder}
 use Rattle.leveldb_repair.proofs.RepairFailsLemmas.{fails_earlier, fails_weaker}
-use Rattle.leveldb_repair.specs.FoundWalkTable.{FailsBetweenOr}
+use Rattle.leveldb_repair.specs.FoundWalkTable.{FailsBetweenOr, KeepsFound}
 use Rattle.leveldb_repair.specs.RepairStore.{ArePairsFound, AreTooManyFound, HasClash, HasLargeBatchInLog, HasTooFewNumbers, HasUndecodedTable, HasUnlikeDeletions, IsMomentOfRepair, IsOldOrPartlyRepaired, HoldsAllFound, RepairsStore, WhyNotEnded, WhyNotBegun}
+use Rattle.leveldb_repair.specs.declared.found_walk.files.ReadFiles.{ReadFiles}
 
 -- what the compressors of a format decode means the same
 pub decodes_by : {format : Format} {meaning : Meaning} → Agrees format meaning
@@ -52,6 +53,20 @@ leaves_then env first second = record {
   locks = λ modelled. second.locks modelled ∙ first.locks modelled;
   later = let one = first.later in let other = second.later in omega (arith, one, other);
 }
+
+-- no call changes none
+pub leaves_none : {E F : Type 0} (env : EnvGhosts E F) (at : E) → LeavesFiles env at at
+leaves_none env at = record {
+  run = λ modelled. begun (env.observed at) refl;
+  locks = λ modelled. refl;
+  later = omega arith;
+}
+
+-- nor do moves of found walks
+pub leaves_kept : {E F K : Type 0} (env : EnvGhosts E F) {first second : E × ReadFiles K}
+    → KeepsFound env first second → LeavesFiles env first.0 second.0
+leaves_kept env kept =
+    record { run = kept.disk.disk; locks = kept.disk.locks; later = kept.later }
 
 module _ {C FP : Type 0} {order : CmpGhosts C} {filters : FilterGhosts FP}
     (choices : TableChoices order filters) {E F : Type 0} (env : EnvGhosts E F) (store : List ℕ) where

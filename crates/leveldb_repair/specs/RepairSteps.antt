@@ -1,6 +1,6 @@
 -- The steps of a repair: the lists of pairs that have all that is found, walks over them, and what
 -- is made of these.
-use Rattle.std.specs.Prelude.{◌≡◌, ◌↔◌, ◌+◌, ◌<◌, ◌≤◌, ◌^◌, ℕ, List, All, Contains, Result, IfErr, IfOk, IsTrue}
+use Rattle.std.specs.Prelude.{◌≡◌, ◌⊎◌, ◌↔◌, ◌+◌, ◌<◌, ◌≤◌, ◌^◌, ℕ, List, All, Contains, Result, IfErr, IfOk, IsTrue}
 use Rattle.leveldb_base.specs.Entries.{entries_of_pairs}
 use Rattle.leveldb_base.specs.History.{AreRising, Entry}
 use Rattle.leveldb_base.specs.KeyTypes.{internal_cmp}
@@ -67,6 +67,15 @@ module _ (store : List ℕ) (format : Format) (files : Files) where
     pub rising : AreRising (internal_cmp format.order) pairs
     pub found_is : (more : Meaning) → DecodesMore (Decodes format.codings) (Decodes more.codings)
         → AreFound store (IsAnyTable format.order more) files (entries_of_pairs pairs)
+
+-- ---- the error of a clash
+
+-- What a call says that may give a status of damage another text: no file changes.
+pub record NamesClash {E F : Type 0} (env : EnvGhosts E F) (from : E) (status named : Status)
+    (to : E) : Type 0 where
+  pub leaves : LeavesFiles env from to
+  -- it is the status, or has its code
+  pub is : (named ≡ status) ⊎ ((status.code ≡ Corruption) × (named.code ≡ Corruption))
 
 -- ---- a walk over them
 

@@ -16,6 +16,7 @@ use leveldb_env::options::Options;
 use std::alloc::Global;
 
 mod children;
+mod clash;
 mod find;
 mod restore;
 

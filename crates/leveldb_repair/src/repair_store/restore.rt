@@ -10,6 +10,7 @@ ghost use Rattle.leveldb_store.specs.Compactions.Merging.{LeavesFiles};
 ghost use Rattle.leveldb_version_set.specs.Repairs.Repairing.{repaired_edit};
 ghost use Rattle.leveldb_version.specs.Edits.VersionEdit.{edit_of};
 
+use super::clash::with_names;
 use crate::found_walk::{FoundTable, FoundWalk, ReadFiles, ReadsFound};
 use crate::look_over::{LookedOver, look_over};
 use crate::write_found::write_found;
@@ -65,7 +66,8 @@ pub(super) fn restore_walks<
     restore(env, files, &mut merge, versions, plan)
 }
 
-// Makes a store of all pairs of a walk, which it looks over first.
+// Makes a store of all pairs of a walk, which it looks over first. Where two of one key differ the
+// error names their files.
 fn restore<E: Env, T, W: Walk<E, T>, C: UserCmp + Copy + Drop, FP: FilterPolicy + Copy + Drop>(
     env: &mut E,
     tables: &mut T,
@@ -81,8 +83,10 @@ fn restore<E: Env, T, W: Walk<E, T>, C: UserCmp + Copy + Drop, FP: FilterPolicy 
         (env.old, tables.old) walk.old
         → RepairsStore choices E.Env plan.now.store.now env.old result env.new }
 {
-    let found = look_over(plan.alloc, env, tables, walk)?;
-    write_store(env, tables, walk, versions, plan, found)
+    match look_over(plan.alloc, env, tables, walk) {
+        Ok(found) => write_store(env, tables, walk, versions, plan, found),
+        Err(status) => Err(with_names(env, plan, status)),
+    }
 }
 
 // Writes all pairs of a walk to tables, and then a manifest that names them. The pairs were looked

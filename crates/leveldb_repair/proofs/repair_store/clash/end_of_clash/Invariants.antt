@@ -1,0 +1,9 @@
+use Rattle.std.proofs.Common.{◌-◌, ◌≤◌, length}
+use Rattle.leveldb_store.specs.Compactions.Merging.{LeavesFiles}
+use Rattle.leveldb_repair.proofs.repair_store.clash.end_of_clash.Given as goal
+
+abbrev pub invariant-halves : goal.invariant-halves
+invariant-halves g l = LeavesFiles g.E.Env l.fn.env l.env × (l.fewer ≤ l.enough) × (l.enough ≤ length l.files)
+
+abbrev pub decreases-halves : goal.decreases-halves
+decreases-halves g l = l.enough - l.fewer
