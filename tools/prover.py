@@ -9,6 +9,8 @@ import shutil
 TOP = pathlib.Path(__file__).resolve().parent.parent
 FLAGS = ["--jobs", "1"]
 OVER = "--over="
+# the line of an edit that names its crate
+CRATE = re.compile(r"^crate: (\w+)$", re.MULTILINE)
 # a check's line on a function: its name, its state, and more of it
 STATE = re.compile(r"^fn (\S+): (proved|not proved|no proof)(.*)$", re.MULTILINE)
 # what a proof file says where it names what an edit took away, which tells nothing of a goal
@@ -70,6 +72,20 @@ def read_edits(file):
         elif name and line and not line.startswith("#"):
             edits[name] += line + "\n"
     return edits
+
+
+def gate_edits():
+    """Returns the gate's must-fail edits by the crates that they are of: the lines of each by its name. An edit is of the crate that its line `crate:`
+    names, or else of that whose name its file has. Raises ValueError where a crate has two of one name."""
+    found = {}
+    for file in sorted((TOP / "must-fail").glob("*.edits")):
+        for name, lines in read_edits(file).items():
+            named = CRATE.search(lines)
+            edits = found.setdefault(named[1] if named else file.stem, {})
+            if name in edits:
+                raise ValueError(f"{file}: another edit of its crate has the name {name}")
+            edits[name] = lines
+    return found
 
 
 def verdict(name, state, why, lines):
