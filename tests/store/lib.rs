@@ -27,6 +27,8 @@ mod failed_openings;
 #[cfg(test)]
 mod few_bytes;
 #[cfg(test)]
+mod file_bounds;
+#[cfg(test)]
 mod iterators;
 #[cfg(test)]
 mod long;

@@ -1,6 +1,7 @@
 //! Trials that take minutes, of which short ones are in the modules themselves: ./test --long.
 use super::compactions_in_openings::{crash_in_openings, fail_in_openings};
 use super::compactions_of_many::try_seeds;
+use super::file_bounds::try_scripts;
 use super::merged_inputs::{crash_in_merge, fail_in_merge};
 use super::merging::compare_merges;
 use super::open_tables::damage_each;
@@ -12,6 +13,23 @@ use leveldb_base::error::Result;
 #[test]
 fn twelve_seeds(rt: HostRuntime) -> Result<()> {
     try_seeds(&rt, rt.alloc(), 12)
+}
+
+#[test]
+fn files_of_two_thousand_scripts(rt: HostRuntime) -> Result<()> {
+    let (crashes, failures) = try_scripts(&rt, rt.alloc(), (1000, 2000), false)?;
+    assert!(rt; crashes > 2500 && failures > 1000, "{crashes} {failures}");
+    println!(rt; "{crashes} crashes, {failures} failures")?;
+    Ok(())
+}
+
+/// The same where a crash may change a byte that wasn't synced.
+#[test]
+fn files_of_two_thousand_damaged_scripts(rt: HostRuntime) -> Result<()> {
+    let (crashes, failures) = try_scripts(&rt, rt.alloc(), (1000, 2000), true)?;
+    assert!(rt; crashes > 2500 && failures > 1000, "{crashes} {failures}");
+    println!(rt; "{crashes} crashes, {failures} failures")?;
+    Ok(())
 }
 
 #[test]
