@@ -166,7 +166,14 @@ fn entries_that_clash(rt: HostRuntime) -> Result<()> {
     put_small(alloc, &mut env, false)?;
     put_log_of(alloc, &mut env, "000006.log", &[(1, "a", "9")])?;
     stays(&rt, alloc, &mut env, StatusCode::Corruption)?;
-    assert!(rt; names_clash(alloc, &mut env, "db/000005.ldb and db/000006.log have", "one of them")?);
+    assert!(rt;
+        names_clash(
+            alloc,
+            &mut env,
+            "db/000005.ldb and db/000006.log have",
+            "one of them"
+        )?
+    );
     lose_manifest(&mut env)?;
     stays(&rt, alloc, &mut env, StatusCode::Corruption)?;
     env.delete("db/000005.ldb")?;
@@ -177,7 +184,9 @@ fn entries_that_clash(rt: HostRuntime) -> Result<()> {
 
 /// Whether the text of a repair's error begins with these files, and says which to set aside.
 fn names_clash<E: Env>(alloc: Global, env: &mut E, files: &str, which: &str) -> Result<bool> {
-    let wanted = format!(in alloc; "Corruption: {files} different pairs of one key: set {which} aside")?;
+    let wanted = format!(in alloc;
+        "Corruption: {files} different pairs of one key: set {which} aside"
+    )?;
     let Err(status) = mend(alloc, env) else {
         return Ok(false);
     };
@@ -211,7 +220,10 @@ fn the_files_that_clash(rt: HostRuntime) -> Result<()> {
                 let both = format!(in alloc; "db/00000{first}.log and db/00000{second}.log have")?;
                 (both, "one of them")
             };
-            assert!(rt; names_clash(alloc, &mut env, &files, which)?, "{first} {second}");
+            assert!(rt;
+                names_clash(alloc, &mut env, &files, which)?,
+                "{first} {second}"
+            );
             let path = format!(in alloc; "db/00000{second}.log")?;
             env.delete(&path)?;
             mend(alloc, &mut env)?;
@@ -377,6 +389,45 @@ fn a_damaged_log(rt: HostRuntime) -> Result<()> {
     let map = map_of(alloc, &mut env)?;
     assert!(rt; map.as_str() == " a=1", "{map}");
     Ok(())
+}
+
+/// Files that were set aside have names that are none of a store's: nothing is found of them, they take no number, and they stay as they are.
+#[test]
+fn files_that_were_set_aside(rt: HostRuntime) -> Result<()> {
+    let alloc = rt.alloc();
+    let mut env = MemEnv::new(alloc);
+    put_small(alloc, &mut env, false)?;
+    let table = file_bytes(alloc, &mut env, "000005.ldb")?;
+    let manifest = file_bytes(alloc, &mut env, "MANIFEST-000001")?;
+    lose_manifest(&mut env)?;
+    put_log_of(
+        alloc,
+        &mut env,
+        "000004.log.damaged",
+        &[(2, "b", "9"), (3, "z", "9")],
+    )?;
+    put_file(alloc, &mut env, "000901.ldb.damaged", &table)?;
+    put_file(alloc, &mut env, "MANIFEST-000902.damaged", &manifest)?;
+    let before = files_on(alloc, &mut env)?;
+    mend(alloc, &mut env)?;
+    assert!(rt; env.exists("db/000007.ldb")? && env.exists("db/MANIFEST-000006")?);
+    let map = map_of(alloc, &mut env)?;
+    assert!(rt; map.as_str() == MAP, "{map}");
+    let mut kept = 0;
+    for (name, bytes) in &before {
+        if name.as_str().ends_with(".damaged") {
+            assert!(rt;
+                file_bytes(alloc, &mut env, name)?.as_slice() == bytes.as_slice(),
+                "{name}"
+            );
+            kept += 1;
+        }
+    }
+    assert!(rt; kept == 3, "{kept}");
+    let mut env = MemEnv::new(alloc);
+    put_file(alloc, &mut env, "LOCK", b"")?;
+    put_file(alloc, &mut env, "000003.log.damaged", &table)?;
+    stays(&rt, alloc, &mut env, StatusCode::InvalidArgument)
 }
 
 /// Small tables are cut between user keys, and all versions of a key are in one, whatever the options leave out later.
