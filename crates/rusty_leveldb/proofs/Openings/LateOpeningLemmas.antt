@@ -1,7 +1,7 @@
 -- An opening that ends under its lock: the store isn't opened and the lock is given back, or it is
 -- opened.
 use Rattle.std.specs.Prelude.{Result, if◌then◌else◌, is_ok}
-use Rattle.std.proofs.Common.{◌≡◌, ◌≢◌, ◌<◌, ◌≤◌, ◌+◌, ◌-◌, ◌^◌, ◌⊎◌, ◌∙◌, ⊎_elim, inl, inr, ℕ, Bool, true, false, List, refl, sym, ap, subst, arith, Some, None, Ok, Err, IsTrue}
+use Rattle.std.proofs.Common.{◌≡◌, ◌≢◌, ◌<◌, ◌≤◌, ◌⊎◌, ◌∙◌, ⊎_elim, inl, inr, ℕ, Bool, true, false, List, refl, sym, ap, subst, arith, Some, None, Ok, Err, IsTrue}
 use Rattle.leveldb_base.specs.Error.{IsOutOfMemory, text_of}
 use Rattle.leveldb_base.specs.Names.{file_name}
 use Rattle.leveldb_base.specs.declared.error.Status.{Status}
@@ -34,14 +34,14 @@ use Rattle.rusty_leveldb.specs.Engines.Frame.{IsOwn, Spares}
 use Rattle.rusty_leveldb.specs.Machines.Machine.{IsEarly}
 use Rattle.rusty_leveldb.specs.Engines.Serves.{TakesStep, IsSpared, Reads, Represents, refusal_of, setting_between}
 use Rattle.rusty_leveldb.specs.Machines.State.{Opening, State, open_store, refused}
-use Rattle.rusty_leveldb.specs.Openings.Unopened.{MakesLockAlone, OpenExcused}
+use Rattle.rusty_leveldb.specs.Openings.Unopened.{FailsToUnlock, MakesLockAlone, OpenExcused}
 use Rattle.rusty_leveldb.proofs.Openings.LeftOpeningLemmas.{LeavesUnopened}
 use Rattle.rusty_leveldb.proofs.Openings.LockLemmas.{lock_edits, lock_reads}
 use Rattle.rusty_leveldb.proofs.Machines.MachineLemmas.{risk_opening}
 use Rattle.rusty_leveldb.proofs.Openings.OpeningLemmas.{contents, fits_or_not, is_sound, lock_spares, opening_holds, opening_run, other_lacks, taken_holds}
 use Rattle.rusty_leveldb.proofs.Engines.ReadsLemmas.{IsNamed}
 use Rattle.rusty_leveldb.proofs.Engines.RowLemmas.{unopened_row}
-use Rattle.rusty_leveldb.proofs.Openings.UnderLockLemmas.{IsTaken, LooksNoFurther, but, excused_late, failed_beside, late_spares, never_here, same_current, set_other, set_same}
+use Rattle.rusty_leveldb.proofs.Openings.UnderLockLemmas.{IsTaken, LooksNoFurther, but, excused_late, late_spares, never_here, same_current, set_other, set_same, unlock_failed, unlock_fails}
 use Rattle.rusty_leveldb.proofs.Openings.UnopenedLemmas.{comparator_there, found_in, in_order, lacking, not_kept_causes, other, unwanted}
 use Rattle.rusty_leveldb.proofs.Openings.UnopenedStepLemmas.{settles, unopened_goes}
 
@@ -118,32 +118,40 @@ module _ {E C FP F P : Type 0} {B : Boxed} {keys : InternalOrder C} {key_filters
     end_files : (env.observed to).disk.files ≡ (env.observed opened).disk.files
     end_files = does.now modelled
 
-    lock_end : ((env.observed to).disk.locked (lock_path store)
+    unlock_end : ((env.observed to).disk.locked (lock_path store)
         ≡ (env.observed from).disk.locked (lock_path store))
         ⊎ (((env.observed to).disk.locked (lock_path store) ≡ true)
-        × HasFailed mid (env.failures to))
-    lock_end = by result (relocks modelled) freed
+        × FailsToUnlock env opened to)
+    unlock_end = by result (relocks modelled) does relocks freed
       where
         by : (r : Result (Unit {0}) Status)
             → (env.observed to).disk.locked ≡ (if is_ok r
             then lock_set lock false (env.observed opened).disk.locked
             else (env.observed opened).disk.locked)
+            → ChangesFiles env.models_disk same FilesUnchanged (env.observed opened)
+            (env.observed to) r
+            → ChangesLocks env.models_disk (lock_set lock false) (env.observed opened)
+            (env.observed to) r
             → HasCause (λ _. ⊥) mid (env.failures to) r
             → ((env.observed to).disk.locked (lock_path store)
             ≡ (env.observed from).disk.locked (lock_path store))
             ⊎ (((env.observed to).disk.locked (lock_path store) ≡ true)
-            × HasFailed mid (env.failures to))
-        by (Ok nothing) set cause = inl (ap (λ (l : List ℕ → Bool). l (lock_path store)) set
+            × FailsToUnlock env opened to)
+        by (Ok nothing) set files locks cause = inl (ap (λ (l : List ℕ → Bool). l (lock_path store)) set
             ∙ ap (λ n. lock_set n false (env.observed opened).disk.locked (lock_path store)) lock_is
             ∙ set_same (lock_path store) false (env.observed opened).disk.locked
             ∙ sym (took modelled).was_free)
-        by (Err status) set cause = inr (
+        by (Err status) set files locks cause = inr (
           ap (λ (l : List ℕ → Bool). l (lock_path store)) (set ∙ same_locks) ∙ (took modelled).held,
-          ⊎_elim (λ (never : ⊥). absurd never)
-              (λ count. ⊎_elim
-              (λ (one : env.failures to ≡ mid + 1). inl (omega (arith, one)))
-              (λ full. inr full.0) count) cause.cause,
+          unlock_fails env (lock_set lock false) opened to status files locks cause,
         )
+
+    lock_end : ((env.observed to).disk.locked (lock_path store)
+        ≡ (env.observed from).disk.locked (lock_path store))
+        ⊎ (((env.observed to).disk.locked (lock_path store) ≡ true)
+        × HasFailed mid (env.failures to))
+    lock_end = ⊎_elim (λ still. inl still)
+        (λ held. inr (held.0, unlock_failed env opened to held.1)) unlock_end
 
     other_locks : (path : List ℕ) → path ≢ lock_path store
         → (env.observed to).disk.locked path ≡ (env.observed taken).disk.locked path
@@ -386,9 +394,8 @@ module _ {E C FP F P : Type 0} {B : Boxed} {keys : InternalOrder C} {key_filters
       (Run-call modelled does)))
 
   pub late_opens : IsStoreName store × IsTrue asked.fits × IsTrue asked.compresses
-      → env.failures to < 2 ^ 64
       → EngineOpens env choices store options asked from (Err e) to
-  late_opens well counts = record {
+  late_opens well = record {
     ok = tt;
     err = λ opening is meaning agrees. unopened_row keys env formats store opening meaning from to e
         (stepped opening is meaning agrees);
@@ -407,11 +414,16 @@ module _ {E C FP F P : Type 0} {B : Boxed} {keys : InternalOrder C} {key_filters
         (tt, made_run modelled (never_here env store asked from taken took modelled never));
     kept = nothing_lost;
     unopened = λ modelled. ⊎_elim (λ same_lock. inl same_lock)
-        (λ held. inr (
-          held.0,
-          failed_beside (OpenExcused env store (choices options) asked from e) (env.failures from)
-              mid (env.failures to) later freed.later counts why held.1,
-        )) (lock_end modelled);
+        (λ held. inr (record {
+          held = held.0;
+          mid = opened;
+          later = later;
+          time = λ told.
+              let first = (took told).run.time.later in
+              let second = opens.time told in omega (arith, first, second);
+          ended = why;
+          unlock = held.1;
+        })) (unlock_end modelled);
     cause = record {
       later = omega (arith, later, freed.later);
       cause = ⊎_elim (λ (because : OpenExcused env store (choices options) asked from e). inl because)

@@ -1,17 +1,18 @@
 -- An opening under its lock: what is spared, and why the store isn't opened.
 use Rattle.std.specs.Prelude.{cond}
 use Rattle.std.specs.Str.{bytes_eq}
-use Rattle.std.proofs.Common.{◌≡◌, ◌≢◌, ◌<◌, ◌≤◌, ◌-◌, ◌^◌, ◌⊎◌, ◌∙◌, ⊎_elim, inl, inr, ℕ, Bool, true, false, List, refl, sym, ap, subst, arith, Option, Some, None, Ok, IsTrue}
+use Rattle.std.proofs.Common.{◌≡◌, ◌≢◌, ◌⊎◌, ◌∙◌, ⊎_elim, inl, inr, ℕ, Bool, true, false, List, refl, sym, ap, subst, Option, Some, None, Ok, Err, IsTrue}
 use Rattle.leveldb_base.specs.Names.{file_name}
 use Rattle.leveldb_base.specs.declared.cmp.Cmp.{Ghosts as CmpGhosts}
 use Rattle.leveldb_base.specs.declared.error.Status.{Status}
 use Rattle.leveldb_base.specs.declared.types.FileType.{FileType}
 use Rattle.leveldb_base.specs.declared.types.FileType.TheVariants.{Current, DBLock, InfoLog}
-use Rattle.leveldb_env.specs.Env.{BeforeOrAfter, ChangesFiles, ChangesLocks, File, Files, Observed, Run, SameBut, created, lock_set, or_empty}
+use Rattle.leveldb_env.specs.Env.{BeforeOrAfter, ChangesFiles, ChangesLocks, File, Files, FilesUnchanged, HasCause, Observed, Run, SameBut, created, lock_set, or_empty, same}
 use Rattle.leveldb_env.specs.declared.env.Env.{Ghosts}
 use Rattle.leveldb_env.specs.declared.filter.FilterPolicy.{Ghosts as FilterGhosts}
-use Rattle.leveldb_env.proofs.EnvLemmas.{SameBut-created, at_same, bytes_eq-apart, bytes_eq-same}
+use Rattle.leveldb_env.proofs.EnvLemmas.{Run-call, SameBut-created, at_same, bytes_eq-apart, bytes_eq-same}
 use Rattle.leveldb_files.specs.Stores.Paths.{current_path, lock_path}
+use Rattle.leveldb_store.proofs.Keeping.SoundLemmas.{failed_once}
 use Rattle.leveldb_store.proofs.Keeping.TableKeepsLemmas.{types_apart}
 use Rattle.leveldb_store.specs.Tables.BuildTable.{TableChoices}
 use Rattle.leveldb_store.specs.Openings.OpensStore.{FailsToOpen, IsForbidden, IsForbiddenAs, IsOwnPath, LacksCurrent, LacksUsableEdits, SameBesideOwn, WhyNotOpenable}
@@ -19,7 +20,7 @@ use Rattle.leveldb_store.specs.Writing.Room.{HasFailed}
 use Rattle.leveldb_store.specs.Keeping.Written.{IsData}
 use Rattle.rusty_leveldb.specs.Engines.Frame.{IsOwn, IsOwned, Spares}
 use Rattle.rusty_leveldb.specs.Machines.State.{Opening}
-use Rattle.rusty_leveldb.specs.Openings.Unopened.{FailedBeside, NeverOpens, OpenExcused}
+use Rattle.rusty_leveldb.specs.Openings.Unopened.{FailsToUnlock, NeverOpens, OpenExcused}
 use Rattle.rusty_leveldb.proofs.Openings.LockLemmas.{lock_current, lock_edits, lock_huge, lock_lacks, lock_log, lock_numbers, lock_reads, lock_shared}
 use Rattle.rusty_leveldb.proofs.Engines.Others.{others_made, others_then}
 use Rattle.rusty_leveldb.proofs.Engines.SyncLemmas.{lock_is_no_data}
@@ -223,14 +224,22 @@ module _ {E F : Type 0} (env : Ghosts E F) (store : List ℕ) (asked : Opening) 
           fails = log.fails;
         }))))))))
 
--- beside why it isn't opened, giving back the lock failed
-pub failed_beside : (excused : Type 0) (before mid after : ℕ) → before ≤ mid → mid ≤ after
-    → after < 2 ^ 64 → excused ⊎ HasFailed before mid → HasFailed mid after
-    → FailedBeside excused before after
-failed_beside excused before mid after first second counts why (inl more) = ⊎_elim
-    (λ (because : excused). inl (because, omega (arith, first, more)))
-    (λ (failed : HasFailed before mid). ⊎_elim
-    (λ (less : before < mid). inr (inl (omega (arith, less, more))))
-    (λ (full : before ≡ 2 ^ 64 - 1). inr (inr (omega (arith, full, first, second, counts)))) failed) why
-failed_beside excused before mid after first second counts why (inr full) =
-    inr (inr (omega (arith, full, second, counts)))
+-- where giving back a lock failed, the device did
+pub unlock_failed : {E F : Type 0} (env : Ghosts E F) (from to : E) → FailsToUnlock env from to
+    → HasFailed (env.failures from) (env.failures to)
+unlock_failed env from to fails =
+    failed_once (env.failures from) (env.failures to) fails.counted
+
+-- a call that gives back a lock, and returned an Err, failed so
+pub unlock_fails : {E F : Type 0} (env : Ghosts E F) (change : (List ℕ → Bool) → List ℕ → Bool)
+    (from to : E) (status : Status)
+    → ChangesFiles {T = Unit {0}} env.models_disk same FilesUnchanged (env.observed from)
+    (env.observed to) (Err status)
+    → ChangesLocks {T = Unit {0}} env.models_disk change (env.observed from) (env.observed to)
+    (Err status)
+    → HasCause {T = Unit {0}} (λ _. ⊥) (env.failures from) (env.failures to) (Err status)
+    → FailsToUnlock env from to
+unlock_fails env change from to status does locks cause = record {
+  still = record { disk = λ modelled. Run-call modelled does; locks = locks };
+  counted = ⊎_elim (λ (never : ⊥). absurd never) (λ counted. counted) cause.cause;
+}

@@ -160,8 +160,15 @@ module _ {E F D P : Type 0} (env : Ghosts E F) (store : List ℕ) {keys : CmpGho
       (HasLogNotKept choices env.models_disk store (env.observed from).disk.files) to e
       → IsLockGivenBack env store asked from (IsNotKeptUnder asked.format) to e
   given_back_under to (inl still) = inl still
-  given_back_under to (inr (held, inl (why, failed))) = inr (held, inl (excused_under why, failed))
-  given_back_under to (inr (held, inr failed)) = inr (held, inr failed)
+  given_back_under to (inr kept) = inr (record {
+    held = kept.held;
+    mid = kept.mid;
+    later = kept.later;
+    time = kept.time;
+    ended = ⊎_elim (λ (why : OpenExcused env store choices asked from e). inl (excused_under why))
+        (λ counted. inr counted) kept.ended;
+    unlock = kept.unlock;
+  })
 
 module _ {E F : Type 0} (env : Ghosts E F) (store : List ℕ) (meaning : Meaning)
     (asked opening : Opening) (is : IsOpening store asked opening)

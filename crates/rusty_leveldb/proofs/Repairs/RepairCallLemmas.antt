@@ -12,7 +12,7 @@ use Rattle.leveldb_base.specs.declared.cmp.Cmp.{Ghosts as CmpGhosts}
 use Rattle.leveldb_base.specs.declared.error.Status.{Status}
 use Rattle.leveldb_base.specs.declared.types.FileType.{FileType}
 use Rattle.leveldb_base.specs.declared.types.FileType.TheVariants.{Current, DBLock, Descriptor, Table, Temp}
-use Rattle.leveldb_env.specs.Env.{BeforeOrAfter, ChangesFiles, ChangesLocks, File, Files, FilesUnchanged, HasCause, Observed, Run, SameBut, created, in_folder, lock_set, or_empty, same}
+use Rattle.leveldb_env.specs.Env.{BeforeOrAfter, ChangesFiles, ChangesLocks, File, Files, FilesUnchanged, HasCause, Run, SameBut, created, in_folder, lock_set, or_empty, same}
 use Rattle.leveldb_env.specs.declared.env.Env.{Ghosts}
 use Rattle.leveldb_env.specs.declared.filter.FilterPolicy.{Ghosts as FilterGhosts}
 use Rattle.leveldb_env.proofs.EnvLemmas.{Run-mono, Run-trans, SameBut-created, at_same, bytes_eq-apart, call}
@@ -35,12 +35,12 @@ use Rattle.rusty_leveldb.specs.Engines.Frame.{IsKeptOrMade, IsOwn, IsOwned, Spar
 use Rattle.rusty_leveldb.specs.Repairs.Repair.{AreFoundIn, IsLockedOrPartlyRepaired, IsMomentOfLockedRepair, IsAllRepaired, IsSparedOrRepaired, LeavesOthers, RepairExcused, RepairRefused, Repairs, repaired_state}
 use Rattle.rusty_leveldb.specs.Engines.Serves.{StandsFor}
 use Rattle.rusty_leveldb.specs.Machines.State.{Opening, State, closed}
-use Rattle.rusty_leveldb.specs.Openings.Unopened.{MakesLockAlone}
+use Rattle.rusty_leveldb.specs.Openings.Unopened.{FailsToUnlock, IsLockKept, MakesLockAlone}
 use Rattle.rusty_leveldb.proofs.Openings.OpenCallLemmas.{IsNear}
 use Rattle.rusty_leveldb.proofs.Engines.Others.{others_made}
 use Rattle.rusty_leveldb.proofs.Repairs.RepairFilesLemmas.{bare_back, clash_back, few_back, in_repair_back, large_back, many_back, pairs_back, partly_back, repair_back, undecoded_back, unlike_back}
 use Rattle.rusty_leveldb.proofs.Repairs.RepairStatesLemmas.{closed_if_free, made_keeps, made_spared, repaired_stands, repair_leaves, repair_spares, still_stands}
-use Rattle.rusty_leveldb.proofs.Openings.UnderLockLemmas.{IsTaken, failed_beside, set_other, set_same}
+use Rattle.rusty_leveldb.proofs.Openings.UnderLockLemmas.{IsTaken, set_other, set_same, unlock_fails}
 
 -- ---- what a repair leaves alone
 
@@ -182,47 +182,46 @@ module _ {E F C FP : Type 0} {order : CmpGhosts C} {filters : FilterGhosts FP} (
 -- ---- under the lock
 
 -- how the lock is left by the call that gives it back
-record IsLockLeft (store : List ℕ) (mid to : Observed) (before after : ℕ)
+record IsLockLeft {E F : Type 0} (env : Ghosts E F) (store : List ℕ) (mid to : E)
     (result : Result (Unit {0}) Status) : Type 0 where
   -- it is free, or giving it back failed
-  pub free : OnOk result (to.disk.locked (lock_path store) ≡ false)
-  pub held : OnErr result ((to.disk.locked (lock_path store) ≡ mid.disk.locked (lock_path store))
-      × HasFailed before after)
+  pub free : OnOk result ((env.observed to).disk.locked (lock_path store) ≡ false)
+  pub held : OnErr result (((env.observed to).disk.locked (lock_path store)
+      ≡ (env.observed mid).disk.locked (lock_path store)) × FailsToUnlock env mid to)
   pub others : (path : List ℕ) → path ≢ lock_path store
-      → to.disk.locked path ≡ mid.disk.locked path
+      → (env.observed to).disk.locked path ≡ (env.observed mid).disk.locked path
 
-lock_left : {models_disk : Bool} (store lock : List ℕ) (mid to : Observed) (before after : ℕ)
-    (result : Result (Unit {0}) Status) → lock ≡ lock_path store → IsTrue models_disk
-    → ChangesLocks models_disk (lock_set lock false) mid to result
-    → HasCause (λ _. ⊥) before after result → IsLockLeft store mid to before after result
-lock_left store lock mid to before after (Ok nothing) is modelled set cause = record {
+lock_left : {E F : Type 0} (env : Ghosts E F) (store lock : List ℕ) (mid to : E)
+    (result : Result (Unit {0}) Status) → lock ≡ lock_path store → IsTrue env.models_disk
+    → ChangesFiles env.models_disk same FilesUnchanged (env.observed mid) (env.observed to) result
+    → ChangesLocks env.models_disk (lock_set lock false) (env.observed mid) (env.observed to) result
+    → HasCause (λ _. ⊥) (env.failures mid) (env.failures to) result
+    → IsLockLeft env store mid to result
+lock_left env store lock mid to (Ok nothing) is modelled does set cause = record {
   free = ap (λ (l : List ℕ → Bool). l (lock_path store)) (set modelled)
-      ∙ ap (λ n. lock_set n false mid.disk.locked (lock_path store)) is
-      ∙ set_same (lock_path store) false mid.disk.locked;
+      ∙ ap (λ n. lock_set n false (env.observed mid).disk.locked (lock_path store)) is
+      ∙ set_same (lock_path store) false (env.observed mid).disk.locked;
   held = tt;
   others = λ path differs. ap (λ (l : List ℕ → Bool). l path) (set modelled)
-      ∙ set_other lock false mid.disk.locked path (λ same. differs (same ∙ is));
+      ∙ set_other lock false (env.observed mid).disk.locked path (λ is_lock. differs (is_lock ∙ is));
 }
-lock_left store lock mid to before after (Err status) is modelled set cause = record {
+lock_left env store lock mid to (Err status) is modelled does set cause = record {
   free = tt;
   held = (
     ap (λ (l : List ℕ → Bool). l (lock_path store)) (set modelled),
-    ⊎_elim (λ (never : ⊥). absurd never)
-        (λ count. ⊎_elim
-        (λ (one : after ≡ before + 1). inl (omega (arith, one)))
-        (λ full. inr full.0) count) cause.cause,
+    unlock_fails env (lock_set lock false) mid to status does set cause,
   );
   others = λ path differs. ap (λ (l : List ℕ → Bool). l path) (set modelled);
 }
 
 -- it is one of the two
-free_or_held : (store : List ℕ) (mid to : Observed) (before after : ℕ)
-    (result : Result (Unit {0}) Status) → IsLockLeft store mid to before after result
-    → (to.disk.locked (lock_path store) ≡ false)
-    ⊎ ((to.disk.locked (lock_path store) ≡ mid.disk.locked (lock_path store))
-    × HasFailed before after)
-free_or_held store mid to before after (Ok nothing) left = inl left.free
-free_or_held store mid to before after (Err status) left = inr left.held
+free_or_held : {E F : Type 0} (env : Ghosts E F) (store : List ℕ) (mid to : E)
+    (result : Result (Unit {0}) Status) → IsLockLeft env store mid to result
+    → ((env.observed to).disk.locked (lock_path store) ≡ false)
+    ⊎ (((env.observed to).disk.locked (lock_path store)
+    ≡ (env.observed mid).disk.locked (lock_path store)) × FailsToUnlock env mid to)
+free_or_held env store mid to (Ok nothing) left = inl left.free
+free_or_held env store mid to (Err status) left = inr left.held
 
 -- a failure that was counted after others
 failed_later : (before mid after : ℕ) → before ≤ mid → mid ≤ after → after < 2 ^ 64
@@ -293,10 +292,8 @@ module _ {E F C FP : Type 0} {order : CmpGhosts C} {filters : FilterGhosts FP} (
     end_is : end ≡ (env.observed mid).disk.files
     end_is = does.now modelled
 
-    left : IsLockLeft store (env.observed mid) (env.observed to) (env.failures mid)
-        (env.failures to) given
-    left = lock_left store lock (env.observed mid) (env.observed to) (env.failures mid)
-        (env.failures to) given lock_is modelled relocks freed
+    left : IsLockLeft env store mid to given
+    left = lock_left env store lock mid to given lock_is modelled does relocks freed
 
     held_mid : (env.observed mid).disk.locked (lock_path store) ≡ true
     held_mid = ap (λ (l : List ℕ → Bool). l (lock_path store)) (repairs.locks modelled)
@@ -375,10 +372,45 @@ module _ {E F C FP : Type 0} {order : CmpGhosts C} {filters : FilterGhosts FP} (
         (λ now is. subst made (sym is) (took modelled).run.has) still in
         call modelled both (λ now is. subst made (sym is) both.has) does
 
+    time_mid : (env.observed from).moment ≤ (env.observed mid).moment
+    time_mid =
+        let first = (took modelled).run.time.later in
+        let second = (run_mid any_meaning (agrees_by asked.format)).time.later in
+        omega (arith, first, second)
+
     free_old : (before : State) (meaning : Meaning)
         → StandsFor store meaning (env.observed from).disk before → before.mode ≡ closed
     free_old before meaning was = closed_if_free before.mode before was.is_state.mode
         (sym was.locked ∙ (took modelled).was_free)
+
+  -- ---- the lock
+
+  later_mid : env.failures from ≤ env.failures mid
+  later_mid = let more = repairs.later in omega (arith, counted, more)
+
+  -- how the repair had ended when so many calls had failed
+  abbrev Ended : Status → ℕ → Type 0
+  Ended e by_then = RepairExcused env store asked from NotEnded to e
+      ⊎ HasFailed (env.failures from) by_then ⊎ IsAllRepaired env store asked from to
+
+  ended_of : (e : Status) → RepairExcused env store asked from NotEnded to e
+      ⊎ HasFailed (env.failures from) (env.failures mid) → Ended e (env.failures mid)
+  ended_of e (inl because) = inl because
+  ended_of e (inr failed) = inr (inl failed)
+
+  -- where it had ended so, and giving back the lock failed
+  lock_kept : IsTrue env.models_disk → (e : Status) → Ended e (env.failures mid)
+      → ((env.observed to).disk.locked (lock_path store)
+      ≡ (env.observed mid).disk.locked (lock_path store)) × FailsToUnlock env mid to
+      → IsLockKept env store (Ended e) from to
+  lock_kept modelled e ended left_so = record {
+    held = left_so.0 ∙ held_mid modelled;
+    mid = mid;
+    later = later_mid;
+    time = λ told. time_mid told;
+    ended = ended;
+    unlock = left_so.1;
+  }
 
   -- ---- why it fails
 
@@ -477,13 +509,8 @@ module _ {E F C FP : Type 0} {order : CmpGhosts C} {filters : FilterGhosts FP} (
     returned = λ modelled. ⊎_elim
         (λ (free : (env.observed to).disk.locked (lock_path store) ≡ false).
         inl (free ∙ sym (took modelled).was_free))
-        (λ held. inr (
-          held.0 ∙ held_mid modelled,
-          inl (failed_beside (RepairExcused env store asked from NotEnded to e) (env.failures from)
-              (env.failures mid) (env.failures to) first freed.later counts why held.1),
-        ))
-        (free_or_held store (env.observed mid) (env.observed to) (env.failures mid)
-        (env.failures to) given (left modelled));
+        (λ held. inr (lock_kept modelled e (ended_of e why) held))
+        (free_or_held env store mid to given (left modelled));
     misnamed = λ no. absurd (no well);
     bare = λ modelled bare. tt;
     cause = record {
@@ -495,9 +522,6 @@ module _ {E F C FP : Type 0} {order : CmpGhosts C} {filters : FilterGhosts FP} (
     };
   }
     where
-      first : env.failures from ≤ env.failures mid
-      first = let more = repairs.later in omega (arith, counted, more)
-
       why : RepairExcused env store asked from NotEnded to e
           ⊎ HasFailed (env.failures from) (env.failures mid)
       why = why_of_repair e (subst (λ (r : Result (Unit {0}) Status). IfErr r (λ status.
@@ -524,9 +548,6 @@ module _ {E F C FP : Type 0} {order : CmpGhosts C} {filters : FilterGhosts FP} (
           (subst (λ (f : Format). HoldsAllFound store f meaning here (env.observed mid).disk.files)
           asked_is done.0))
 
-      first : env.failures from ≤ env.failures mid
-      first = let more = repairs.later in omega (arith, counted, more)
-
       moments : IsTrue env.models_disk → (meaning : Meaning) → Agrees asked.format meaning
           → (before : State) → StandsFor store meaning (env.observed from).disk before
           → (found : List Entry) → AreFoundIn store asked.format meaning old found
@@ -543,8 +564,7 @@ module _ {E F C FP : Type 0} {order : CmpGhosts C} {filters : FilterGhosts FP} (
           (any_run modelled)
 
       by : (r : Result (Unit {0}) Status)
-          → (IsTrue env.models_disk → IsLockLeft store (env.observed mid) (env.observed to)
-          (env.failures mid) (env.failures to) r)
+          → (IsTrue env.models_disk → IsLockLeft env store mid to r)
           → HasCause (λ _. ⊥) (env.failures mid) (env.failures to) r
           → Repairs env store asked from choices r to
       by (Ok nothing) left_so freed_so = record {
@@ -586,20 +606,14 @@ module _ {E F C FP : Type 0} {order : CmpGhosts C} {filters : FilterGhosts FP} (
         others = spares;
         bytes = bytes_end;
         freed = tt;
-        returned = λ modelled. inr (
-          (left_so modelled).held.0 ∙ held_mid modelled,
-          inr (
-            all,
-            failed_later (env.failures from) (env.failures mid) (env.failures to) first
-                freed.later counts (left_so modelled).held.1,
-          ),
-        );
+        returned = λ modelled.
+            inr (lock_kept modelled status (inr (inr all)) (left_so modelled).held);
         misnamed = λ no. absurd (no well);
         bare = λ modelled bare. tt;
         cause = record {
           later = later;
-          cause = inr (failed_later (env.failures from) (env.failures mid) (env.failures to) first
-              freed.later counts (counted_so freed_so.cause));
+          cause = inr (failed_later (env.failures from) (env.failures mid) (env.failures to)
+              later_mid freed.later counts (counted_so freed_so.cause));
         };
       }
         where

@@ -1,5 +1,5 @@
 -- What keeps a store from being opened, why an opening fails, and what it leaves then.
-use Rattle.std.specs.Prelude.{◌≡◌, ◌<◌, ◌≤◌, ◌+◌, ◌-◌, ◌^◌, ◌⊎◌, ℕ, List, IsTrue}
+use Rattle.std.specs.Prelude.{◌≡◌, ◌≤◌, ◌+◌, ◌-◌, ◌^◌, ◌⊎◌, ℕ, List, IsTrue}
 use Rattle.leveldb_base.specs.Error.{IsOutOfMemory}
 use Rattle.leveldb_base.specs.declared.cmp.Cmp.{Ghosts as CmpGhosts}
 use Rattle.leveldb_base.specs.declared.error.Status.{Status}
@@ -8,6 +8,9 @@ use Rattle.leveldb_env.specs.declared.env.Env.{Ghosts}
 use Rattle.leveldb_env.specs.declared.filter.FilterPolicy.{Ghosts as FilterGhosts}
 use Rattle.leveldb_env.specs.Env.{BeforeOrAfter, Disk, Observed, Run, created}
 use Rattle.leveldb_files.specs.Stores.Paths.{lock_path}
+use Rattle.leveldb_table.specs.TableBlock.{KeepsDisk}
+use Rattle.leveldb_store.specs.Keeping.SoundCall.{TimeGoesOn}
+use Rattle.leveldb_store.specs.Writing.Room.{HasFailed}
 use Rattle.leveldb_store.specs.Tables.BuildTable.{TableChoices}
 use Rattle.leveldb_store.specs.Logs.FoundLogs.{HasLogNotKept}
 use Rattle.leveldb_files.specs.Stores.Format.{Format, HasCompressorError}
@@ -40,11 +43,23 @@ MakesLockAlone store from to =
 
 -- ---- why it fails, and what it leaves
 
--- beside the cause of the refusal, at least one more call of the device failed, or the count of
--- failures is at its greatest
-abbrev pub FailedBeside : Type 0 → ℕ → ℕ → Type 0
-FailedBeside excused before now = (excused × (before < now)) ⊎ (before + 2 ≤ now)
-    ⊎ (now ≡ 2 ^ 64 - 1)
+module _ {E F : Type 0} (env : Ghosts E F) where
+  -- What a call that frees a lock leaves where it fails: no file and no lock has changed, and one
+  -- failure more is counted, unless the count is at its greatest.
+  pub record FailsToUnlock (from to : E) : Type 0 where
+    pub still : KeepsDisk env from to
+    pub counted : (env.failures to ≡ env.failures from + 1)
+        ⊎ ((env.failures from ≡ 2 ^ 64 - 1) × (env.failures to ≡ env.failures from))
+
+  -- The lock is held after a call. What the call was for had ended before (`Ended`, by the count of
+  -- failures then), and then freeing the lock failed.
+  pub record IsLockKept (store : List ℕ) (Ended : ℕ → Type 0) (from to : E) : Type 0 where
+    pub held : IsLockHeld store (env.observed to).disk
+    pub mid : E
+    pub later : env.failures from ≤ env.failures mid
+    pub time : TimeGoesOn env from mid
+    pub ended : Ended (env.failures mid)
+    pub unlock : FailsToUnlock mid to
 
 -- why a log's batches aren't kept in memory and in tables, where only the format is known
 abbrev pub IsNotKeptUnder : Format → Status → Type 0
@@ -77,13 +92,14 @@ module _ {E F : Type 0} (env : Ghosts E F) (store : List ℕ) (asked : Opening) 
       ⊎ LacksNumbers store disk.files))
       ⊎ NotKept e
 
-  -- After an opening that fails the lock is as it was, or is held where giving it back failed, too.
+  -- After an opening that fails the lock is as it was. Or it is held: the opening had failed, for one
+  -- of these reasons or by the device, and then freeing the lock failed, too.
   abbrev pub IsLockGivenBack : E → Status → Type 0
   IsLockGivenBack to e =
       ((env.observed to).disk.locked (lock_path store)
       ≡ (env.observed from).disk.locked (lock_path store))
-      ⊎ (IsLockHeld store (env.observed to).disk
-      × FailedBeside (OpenExcusedOr e) (env.failures from) (env.failures to))
+      ⊎ IsLockKept env store (λ by_then. OpenExcusedOr e ⊎ HasFailed (env.failures from) by_then)
+      from to
 
 -- the same with the batches of a log that is found, and the choices with which tables are built
 abbrev pub OpenExcused : {E F D P : Type 0} (env : Ghosts E F) (store : List ℕ)

@@ -24,7 +24,7 @@ use Rattle.rusty_leveldb.specs.Engines.Frame.{IsOwn, Spares}
 use Rattle.rusty_leveldb.specs.Machines.Machine.{risk_between}
 use Rattle.rusty_leveldb.specs.Engines.Serves.{IsSpared, StandsFor}
 use Rattle.rusty_leveldb.specs.Machines.State.{IsState, Opening, State, closed}
-use Rattle.rusty_leveldb.specs.Openings.Unopened.{FailedBeside, IsLockHeld, MakesLockAlone}
+use Rattle.rusty_leveldb.specs.Openings.Unopened.{IsLockHeld, IsLockKept, MakesLockAlone}
 
 -- ---- the machine's row
 
@@ -114,15 +114,14 @@ module _ {E F : Type 0} (env : Ghosts E F) (store : List ℕ) (asked : Opening) 
         → MakesLockAlone store (env.observed from) (env.observed to)))
         ⊎ NotEnded e
 
-    -- After a repair that fails the lock is as it was. Or it is held, where giving it back failed:
-    -- as one more call of the device than the failure tells, or alone, after all was repaired.
+    -- After a repair that fails the lock is as it was. Or it is held: the repair had failed, for one
+    -- of these reasons or by the device, or all was repaired, and then freeing the lock failed.
     abbrev pub IsLockReturned : E → Status → Type 0
     IsLockReturned to e =
         ((env.observed to).disk.locked (lock_path store)
         ≡ (env.observed from).disk.locked (lock_path store))
-        ⊎ (IsLockHeld store (env.observed to).disk
-        × (FailedBeside (RepairExcused to e) (env.failures from) (env.failures to)
-        ⊎ (IsAllRepaired to × HasFailed (env.failures from) (env.failures to))))
+        ⊎ IsLockKept env store (λ by_then. RepairExcused to e
+        ⊎ HasFailed (env.failures from) by_then ⊎ IsAllRepaired to) from to
 
   -- ---- the call
 

@@ -196,7 +196,7 @@ returns-in-Err-ended g c = late_opens g.E.Env _ c.args.options c.args.name.now
       c.in_ok-check_name.ensures.ok,
       within_is c.args.options c.in_ok-check.ensures.limits,
       c.in_ok-check.ensures.compressor,
-    ) (g.met.E.Env.counts c.give_back.new.env)
+    )
 
 pub returns-in-Err : goal.returns-in-Err
 returns-in-Err g c = late_opens g.E.Env _ c.args.options c.args.name.now
@@ -218,4 +218,4 @@ returns-in-Err g c = late_opens g.E.Env _ c.args.options c.args.name.now
       c.in_ok-check_name.ensures.ok,
       within_is c.args.options c.in_ok-check.ensures.limits,
       c.in_ok-check.ensures.compressor,
-    ) (g.met.E.Env.counts c.give_back-in-Err.new.env)
+    )
