@@ -1,5 +1,5 @@
 -- What the program does: it reads commands, runs them, and writes the replies, or repairs a store.
-use Rattle.std.specs.Prelude.{◌≡◌, ◌⊎◌, ◌<◌, ◌≤◌, ◌^◌, ℕ, List, [], ◌∷◌, ◌++◌, length, map, Option, Result, Ok, IfSome, true, String, string_bytes, false, codes}
+use Rattle.std.specs.Prelude.{◌≡◌, ◌⊎◌, ◌<◌, ◌≤◌, ◌^◌, ℕ, List, [], ◌∷◌, ◌++◌, length, map, Option, None, Result, Ok, IfSome, true, String, string_bytes, false, codes}
 use Rattle.std.specs.Io.KnownBytes.{Appends}
 use Rattle.std.specs.declared.alloc.Global.{Global}
 use Rattle.std.specs.declared.io.Read.{Ghosts as ReadGhosts}
@@ -20,6 +20,8 @@ use Rattle.leveldb_env.specs.declared.env.Env.{Ghosts}
 use Rattle.leveldb_env.specs.declared.filter.FilterPolicy.{Ghosts as FilterGhosts}
 use Rattle.leveldb_env.specs.Bloom.{bloom_matches}
 use Rattle.leveldb_env.specs.Compressor.{plain_codings}
+use Rattle.leveldb_env.specs.Options.{Boxed, HasDefaultChoices, OptionsOf}
+use Rattle.leveldb_env.specs.declared.infolog.Logger.{Logger}
 use Rattle.leveldb_store.specs.Tables.BuildTable.{TableChoices}
 use Rattle.rusty_leveldb.specs.declared.shell.commands.Command.{Command}
 use Rattle.rusty_leveldb.specs.declared.shell.commands.Reply.{Reply}
@@ -33,6 +35,7 @@ use Rattle.rusty_leveldb.specs.Programs.Language.{IsScript, IsBadLine, reply_lin
 use Rattle.rusty_leveldb.specs.Machines.State.{Opening}
 use Rattle.rusty_leveldb.specs.Repairs.Repair.{Repairs}
 use Rattle.rusty_leveldb.specs.Programs.RunAlone.{HasReadAlone}
+use Rattle.rusty_leveldb.specs.Programs.RunCalls.{RunsByCalls}
 use Rattle.rusty_leveldb.specs.Programs.Shell.{HasRun}
 
 -- The arguments name a folder, and what is done there: a single one is the folder, after
@@ -130,8 +133,8 @@ ldb_keys = internal_keys.ghosts default_row default_user.ghosts default_user.dic
 abbrev pub ldb_filters : FilterGhosts ℕ
 ldb_filters = internal_filters.ghosts bloom_row bloom.ghosts bloom.dict
 
--- What the program makes the tables of a repair with: these, with ten bits a key, and blocks of
--- 4096 bytes, stored as they are, with a restart point every 16 entries.
+-- What the program makes tables with: these, with ten bits a key, and blocks of 4096 bytes, stored
+-- as they are, with a restart point every 16 entries.
 abbrev pub ldb_choices : TableChoices ldb_keys ldb_filters
 ldb_choices = record {
   format = ldb_opening.format;
@@ -142,6 +145,41 @@ ldb_choices = record {
   restarts = 16;
 }
 
+-- ---- how the program runs commands
+
+-- a fact where a store is opened to be written to, too
+abbrev pub OnWhole : Way → Type 0 → Type 0
+OnWhole way.Whole fact = fact
+OnWhole way.Alone fact = Unit {0}
+
+module _ (B : Boxed) (log : Option (Logger B.sinks B.sink)) where
+  -- The program's options: the default ones, but for this log. `choices` says what tables options
+  -- make: whatever became of the log, they are made with the program's choices.
+  pub record AreLdbOptions (choices : OptionsOf DefaultCmp ℕ B → TableChoices ldb_keys ldb_filters)
+      (options : OptionsOf DefaultCmp ℕ B) : Type 0 where
+    pub log_is : options.log ≡ log
+    pub defaults : HasDefaultChoices (record options { log = None })
+    pub tables : (now : Option (Logger B.sinks B.sink))
+        → choices (record options { log = now }) ≡ ldb_choices
+
+  -- a run of commands by its calls, over a store that is opened with such options
+  abbrev pub RunsByDefault : {E F : Type 0} → Ghosts E F → List ℕ → List Command → E → List Reply
+      → Result (Unit {0}) Status → E → Type 0
+  RunsByDefault env folder commands from given ended to =
+      (choices : OptionsOf DefaultCmp ℕ B → TableChoices ldb_keys ldb_filters)
+      × (options : OptionsOf DefaultCmp ℕ B) × AreLdbOptions choices options
+      × RunsByCalls {B = B} env choices folder options ldb_opening commands from given ended to
+
+-- the types of what the program's options own in boxes, by that of their log's sink: no compressor
+-- is in one
+abbrev pub ldb_boxes : (S : Type 0) → (S → Type 0) → Boxed
+ldb_boxes S sink = record {
+  sinks = S;
+  compressors = ⊥;
+  sink = sink;
+  compressor = λ none. ⊥;
+}
+
 module _ {E F : Type 0} (env : Ghosts E F) where
   -- a run of commands over the store in a folder, which is opened this way
   abbrev pub HasRunBy : Way → List ℕ → Opening → List Command → E → List Reply
@@ -150,15 +188,6 @@ module _ {E F : Type 0} (env : Ghosts E F) where
       HasRun env folder asked commands from given ended to
   HasRunBy way.Alone folder asked commands from given ended to =
       HasReadAlone env folder asked commands from given ended to
-
-  -- the commands were run in a folder, each was replied to, and the output grew by the replies'
-  -- lines
-  abbrev pub IsPlayed : Way → List ℕ → List Command → E → E → Option (List ℕ) → Option (List ℕ)
-      → Type 0
-  IsPlayed one folder commands from to held holds =
-      (given : List Reply) × (length given ≡ length commands)
-      × HasRunBy one folder ldb_opening commands from given (Ok tt) to
-      × Appends held holds (reply_lines given)
 
   -- a repair of the store in a folder, as it is asked for, whose tables are made by the program's
   -- choices
@@ -171,46 +200,67 @@ module _ {E F : Type 0} (env : Ghosts E F) where
   IsRepairAnswered folder from to held holds = HasRepaired folder ldb_opening from (Ok tt) to
       × Appends held holds (codes "repaired" ++ 10 ∷ [])
 
-  -- the arguments name a folder, and the commands that the input encodes were run in it; or its
-  -- store was repaired
-  abbrev pub IsAnswered : List (String Global) → E → E → Option (List ℕ) → Option (List ℕ)
-      → Option (List ℕ) → Type 0
-  IsAnswered args from to input held holds =
-      ((one : Way) × (folder : List ℕ) × NamesFolder args (task.Run one) folder
-      × (commands : List Command) × IsInput input commands
-      × (given : List Reply) × (length given ≡ length commands)
-      × HasRunBy one folder ldb_opening commands from given (Ok tt) to
-      × Appends held holds (reply_lines given))
-      ⊎ ((folder : List ℕ) × NamesFolder args task.Repair folder
-      × IsRepairAnswered folder from to held holds)
+-- ---- what the program does with this log
 
-  -- the program left the environment as it was, or it ran the commands that the input encodes in
-  -- the folder that the arguments name, or its store is as a repair leaves it
-  abbrev pub IsStopped : List (String Global) → E → E → Option (List ℕ) → Type 0
-  IsStopped args from to input = (to ≡ from)
-      ⊎ ((one : Way) × (folder : List ℕ) × NamesFolder args (task.Run one) folder
-      × (commands : List Command) × IsInput input commands
-      × (given : List Reply) × (ended : Result (Unit {0}) Status)
-      × HasRunBy one folder ldb_opening commands from given ended to)
-      ⊎ ((folder : List ℕ) × NamesFolder args task.Repair folder
-      × (ended : Result (Unit {0}) Status) × HasRepaired folder ldb_opening from ended to)
+module _ {E F S : Type 0} {sink : S → Type 0} (env : Ghosts E F) (log : Option (Logger S sink))
+  where
+    -- The program ran commands over the store in a folder. Where that isn't read alone, each command
+    -- is one call of the engine that the calls before it left, and its reply tells that call's
+    -- result: so a refusal has the call's own reason.
+    abbrev pub HasPlayed : Way → List ℕ → List Command → E → List Reply → Result (Unit {0}) Status
+        → E → Type 0
+    HasPlayed one folder commands from given ended to =
+        HasRunBy env one folder ldb_opening commands from given ended to
+        × OnWhole one (RunsByDefault (ldb_boxes S sink) log env folder commands from given ended to)
 
-  -- What the program did, by the status with which it ended: with these arguments, over this
-  -- environment, its input and its output, which it left so.
-  pub record EndsProgram {I O : Type 0} (reads : ReadGhosts I) (writes : WriteGhosts O)
-      (args : List (String Global)) (from : E) (input : I) (out : O) (status : ℕ) (to : E)
-      (rest : I) (written : O) : Type 0 where
-    -- 0: all was answered and written
-    pub answered : status ≡ 0 → IsAnswered args from to (reads.remaining input)
-        (writes.contents out) (writes.contents written)
-    -- 1: a call failed
-    pub stopped : status ≡ 1 → IsStopped args from to (reads.remaining input)
-    -- 2: nothing was done or written, and the arguments, a line or the input's length is wrong
-    pub untouched : status ≡ 2 → (to ≡ from) × (written ≡ out)
-    pub misasked : status ≡ 2 → IsMisasked args (reads.remaining input)
-    -- it ends with one of the three
-    pub statuses : status ≤ 2
+    -- the commands were run in a folder, each was replied to, and the output grew by the replies'
+    -- lines
+    abbrev pub IsPlayed : Way → List ℕ → List Command → E → E → Option (List ℕ) → Option (List ℕ)
+        → Type 0
+    IsPlayed one folder commands from to held holds =
+        (given : List Reply) × (length given ≡ length commands)
+        × HasPlayed one folder commands from given (Ok tt) to
+        × Appends held holds (reply_lines given)
 
+    -- the arguments name a folder, and the commands that the input encodes were run in it; or its
+    -- store was repaired
+    abbrev pub IsAnswered : List (String Global) → E → E → Option (List ℕ) → Option (List ℕ)
+        → Option (List ℕ) → Type 0
+    IsAnswered args from to input held holds =
+        ((one : Way) × (folder : List ℕ) × NamesFolder args (task.Run one) folder
+        × (commands : List Command) × IsInput input commands
+        × IsPlayed one folder commands from to held holds)
+        ⊎ ((folder : List ℕ) × NamesFolder args task.Repair folder
+        × IsRepairAnswered env folder from to held holds)
+
+    -- the program left the environment as it was, or it ran the commands that the input encodes in
+    -- the folder that the arguments name, or its store is as a repair leaves it
+    abbrev pub IsStopped : List (String Global) → E → E → Option (List ℕ) → Type 0
+    IsStopped args from to input = (to ≡ from)
+        ⊎ ((one : Way) × (folder : List ℕ) × NamesFolder args (task.Run one) folder
+        × (commands : List Command) × IsInput input commands
+        × (given : List Reply) × (ended : Result (Unit {0}) Status)
+        × HasPlayed one folder commands from given ended to)
+        ⊎ ((folder : List ℕ) × NamesFolder args task.Repair folder
+        × (ended : Result (Unit {0}) Status) × HasRepaired env folder ldb_opening from ended to)
+
+    -- What the program did, by the status with which it ended: with these arguments, over this
+    -- environment, its input and its output, which it left so.
+    pub record EndsProgram {I O : Type 0} (reads : ReadGhosts I) (writes : WriteGhosts O)
+        (args : List (String Global)) (from : E) (input : I) (out : O) (status : ℕ) (to : E)
+        (rest : I) (written : O) : Type 0 where
+      -- 0: all was answered and written
+      pub answered : status ≡ 0 → IsAnswered args from to (reads.remaining input)
+          (writes.contents out) (writes.contents written)
+      -- 1: a call failed
+      pub stopped : status ≡ 1 → IsStopped args from to (reads.remaining input)
+      -- 2: nothing was done or written, and the arguments, a line or the input's length is wrong
+      pub untouched : status ≡ 2 → (to ≡ from) × (written ≡ out)
+      pub misasked : status ≡ 2 → IsMisasked args (reads.remaining input)
+      -- it ends with one of the three
+      pub statuses : status ≤ 2
+
+module _ {E F : Type 0} (env : Ghosts E F) where
   -- What it looks at before it opens a store: its arguments, and then its input.
   pub record ChecksInput {I O : Type 0} (reads : ReadGhosts I) (args : List (String Global))
       (from : E) (input : I) (out : O) (status : ℕ) (to : E) (rest : I) (written : O) : Type 0 where

@@ -2,9 +2,11 @@
 ghost use Rattle.std.specs.Prelude.{◌≡◌, ◌≤◌, ◌^◌, ◌++◌, ℕ, List, Result, drop, length, IfOk, IfErr, IfSome, MatchOption, OnOk, OnErr, IsErrAnd};
 ghost use Rattle.leveldb_base.specs.declared.error.Status.{Status};
 ghost use Rattle.std.specs.Io.KnownBytes.{Appends};
+ghost use Rattle.leveldb_store.specs.Tables.BuildTable.{choices_of};
 ghost use Rattle.rusty_leveldb.specs.Programs.Language.{reply_lines};
 ghost use Rattle.rusty_leveldb.specs.Engines.Engine.{opening_of};
-ghost use Rattle.rusty_leveldb.specs.Programs.Program.{status_of, AskForRepair, AskForRun, ChecksInput, EndsProgram, HasRepaired, HasRunBy, IsBadInput, IsInputFault, IsRepairAnswered, IsInput, IsPlayed, IsAnswered, IsStopped, NamesFolder, NamesNoFolder, StopsFor, ldb_opening};
+ghost use Rattle.rusty_leveldb.specs.Programs.Program.{status_of, AskForRepair, AskForRun, ChecksInput, EndsProgram, HasPlayed, HasRepaired, HasRunBy, IsBadInput, IsInputFault, IsRepairAnswered, IsInput, IsPlayed, IsAnswered, IsStopped, NamesFolder, NamesNoFolder, OnWhole, StopsFor, ldb_opening};
+ghost use Rattle.rusty_leveldb.specs.Programs.RunCalls.{RunsByCalls};
 ghost use Rattle.rusty_leveldb.specs.declared.shell.commands.Reply.{Reply};
 ghost use Rattle.rusty_leveldb.specs.declared.shell.program.Fault.TheVariants.{Usage};
 
@@ -14,11 +16,11 @@ use super::reading::run_read_only;
 use super::replies::put_replies;
 use super::runs::run;
 use crate::db_impl::repair;
-use leveldb_base::cmp::UserCmp;
+use leveldb_base::cmp::{Cmp, InternalKeyCmp, UserCmp};
 use leveldb_base::error::Status;
 use leveldb_env::compressor::{CompressorList, Compressors};
 use leveldb_env::env::Env;
-use leveldb_env::filter::FilterPolicy;
+use leveldb_env::filter::{FilterPolicy, InternalFilterPolicy};
 use leveldb_env::infolog::Logger;
 use leveldb_env::options::Options;
 use std::alloc::{AllocError, Global};
@@ -90,7 +92,7 @@ pub fn ldb_main<E: Env, I: Read, O: Write, F: Write>(
     out: &mut O,
     err: &mut F,
 ) -> u8
-    ensures ends { EndsProgram E.Env I.Read O.Write args.now env.old input.old out.old result
+    ensures ends { EndsProgram E.Env log I.Read O.Write args.now env.old input.old out.old result
         env.new input.new out.new }
     ensures checks { ChecksInput E.Env I.Read args.now env.old input.old out.old result env.new
         input.new out.new }
@@ -123,10 +125,10 @@ fn serve<E: Env, I: Read, O: Write>(
     out: &mut O,
 ) -> Result<(), Fault>
     ensures answered { OnOk result
-        (IsAnswered E.Env args.now env.old env.new (I.remaining input.old)
+        (IsAnswered E.Env log args.now env.old env.new (I.remaining input.old)
         (O.contents out.old) (O.contents out.new)) }
     ensures stopped { OnErr result
-        (IsStopped E.Env args.now env.old env.new (I.remaining input.old)) }
+        (IsStopped E.Env log args.now env.old env.new (I.remaining input.old)) }
     ensures fault { IfErr result
         (StopsFor args.now (I.remaining input.old) env.old out.old env.new out.new) }
     ensures usage { NamesNoFolder args.now → IsErrAnd result (λ fault. fault ≡ Usage) }
@@ -193,11 +195,10 @@ fn play<E: Env, O: Write>(
     commands: &[Command],
     out: &mut O,
 ) -> Result<(), Status>
-    ensures played { OnOk result (IsPlayed E.Env way folder.now commands.now env.old env.new
+    ensures played { OnOk result (IsPlayed E.Env log way folder.now commands.now env.old env.new
         (O.contents out.old) (O.contents out.new)) }
     ensures run { (given : List Reply) × (ended : Result (Unit {0}) Status)
-        × HasRunBy E.Env way folder.now ldb_opening commands.now env.old given ended
-        env.new }
+        × HasPlayed E.Env log way folder.now commands.now env.old given ended env.new }
 {
     let mut replies = Vec::new(alloc);
     let mut options = Options::default();
@@ -220,6 +221,11 @@ fn run_by<E: Env, C: UserCmp + Copy, FP: FilterPolicy + Copy>(
     ensures runs { HasRunBy E.Env way folder.now (opening_of C.Cmp FP.FilterPolicy
         ⟦<CompressorList as Compressors>⟧.codings options) commands.now env.old
         (drop (length replies.old.items) replies.new.items) result env.new }
+    ensures calls { let codings = ⟦<CompressorList as Compressors>⟧.codings in
+        OnWhole way (RunsByCalls E.Env (choices_of C.Cmp FP.FilterPolicy
+        ⟦<InternalKeyCmp<C> as Cmp>⟧ ⟦<InternalFilterPolicy<FP> as FilterPolicy>⟧ codings)
+        folder.now options (opening_of C.Cmp FP.FilterPolicy codings options) commands.now env.old
+        (drop (length replies.old.items) replies.new.items) result env.new) }
     ensures after { (given : List Reply) × (replies.new.items ≡ replies.old.items ++ given)
         × OnOk result (length given ≡ length commands.now) }
 {

@@ -6,7 +6,7 @@ use Rattle.rusty_leveldb.proofs.shell.program.ldb_main.Goals as goal
 
 pub returns-in-Ok-clause-ends : goal.returns-in-Ok-clause-ends
 returns-in-Ok-clause-ends g c =
-    ends_answered g.E.Env g.I.Read g.O.Write c.args.args.now c.args.env.now c.args.input.now c.args.out.now
+    ends_answered g.E.Env c.args.log g.I.Read g.O.Write c.args.args.now c.args.env.now c.args.input.now c.args.out.now
     c.serve.new.env c.serve.new.input c.serve.new.out c.in-Ok.ensures.answered
 
 pub returns-in-Ok-clause-checks : goal.returns-in-Ok-clause-checks
@@ -18,7 +18,7 @@ returns-in-Ok-clause-checks g c = record {
 
 pub returns-in-Err-clause-ends : goal.returns-in-Err-clause-ends
 returns-in-Err-clause-ends g c =
-    ends_at_fault g.E.Env g.I.Read g.O.Write c.args.args.now c.args.env.now c.args.input.now c.args.out.now
+    ends_at_fault g.E.Env c.args.log g.I.Read g.O.Write c.args.args.now c.args.env.now c.args.input.now c.args.out.now
     c.serve.new.env c.serve.new.input c.serve.new.out c.in-Err.fault c.tell_fault.result c.tell_fault.ensures
     c.in-Err.ensures.fault.1 c.in-Err.ensures.stopped c.in-Err.ensures.fault.0
 

@@ -8,7 +8,7 @@ pub returns-in_ok-play-in-Run-clause-answered : goal.returns-in_ok-play-in-Run-c
 returns-in_ok-play-in-Run-clause-answered g c =
     let named = rw c.in-Run.is at c.in-Some.ensures in
     let all = rw c.deref.ensures.value at c.in_ok-play-in-Run.ensures.played in
-    inl (c.in-Run.way, c.in-Some.folder.now, named, c.in_ok-commands-in-Run.commands.items, c.in_ok-commands-in-Run.ensures.ok, all.0, all.1, all.2, all.3)
+    inl (c.in-Run.way, c.in-Some.folder.now, named, c.in_ok-commands-in-Run.commands.items, c.in_ok-commands-in-Run.ensures.ok, all)
 
 pub returns-in_err-play-in-Run-clause-stopped : goal.returns-in_err-play-in-Run-clause-stopped
 returns-in_err-play-in-Run-clause-stopped g c =
