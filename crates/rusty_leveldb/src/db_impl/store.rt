@@ -46,6 +46,10 @@ pub struct Store<'e, E: Env, S: Drop> {
 /// store is dropped. Of a store of which an iterator was asked for no contract says more:
 /// `new_iter`.
 ///
+/// Contracts say so of an environment that shows what its disk holds and does what its trait says.
+/// Those in memory are proved to; the operating system's files are assumed to be such a disk
+/// (docs/guarantees.md, Premises).
+///
 /// | Code | Where a call may return it |
 /// |---|---|
 /// | `OutOfMemory` | any call but `release_snapshot` and `abandon`: memory ran out |
