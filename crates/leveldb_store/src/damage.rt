@@ -1,9 +1,9 @@
 //! What is left out of a log or a manifest, which is read up to its first bad end.
 // LevelDB: db/db_impl.cc, LogReporter of DBImpl::RecoverLogFile
-ghost use Rattle.std.specs.Prelude.{◌≡◌, ◌≤◌, ◌<◌, ◌+◌, ◌^◌, ◌↔◌, ◌⊎◌, ◌++◌, All, IfNone, IfSome, IsSomeAnd, IsTrue, List, false, length, slice_index, ℕ};
+ghost use Rattle.std.specs.Prelude.{◌≡◌, ◌≤◌, ◌<◌, ◌+◌, ◌*◌, ◌^◌, ◌↔◌, ◌⊎◌, ◌++◌, All, IfNone, IfSome, IsSomeAnd, IsTrue, List, false, length, slice_index, true, ℕ};
 ghost use Rattle.leveldb_mem.specs.Log.{Fragment, NoFragment, filler, log_block_size, room};
 ghost use Rattle.leveldb_mem.specs.Log.Taking.{HasRightChecksum, declared_length};
-ghost use Rattle.leveldb_store.specs.Logs.Damage.{AreWholeUpTo, ContinuesRecord, HasBegun, HasEndFrom, IsHeaded, IsOfKind, IsWholeFront, LosesRecords, StartsWithEnd, parts_after};
+ghost use Rattle.leveldb_store.specs.Logs.Damage.{AreWholeUpTo, ContinuesRecord, HasBegun, HasEndFrom, IsHeaded, IsOfKind, IsWholeFront, LosesRecords, NoneGoesOn, StartsWithEnd, parts_after};
 
 use leveldb_base::crc::{crc32, mask_crc};
 use leveldb_mem::log::{BLOCK_SIZE, HEADER_SIZE};
@@ -43,11 +43,12 @@ struct Scan {
     is_misplaced: bool,
 }
 
-/// What comes after the first bad end of these bytes, a log's, if they have one. None where this
-/// end is torn, as a crash leaves it: the bytes end in a fragment, or in zeros in its place, and no
-/// record ends after it.
+/// What comes after the first bad end of these bytes, a log's, if they have one. It has records
+/// exactly if the log loses some. None where this end is torn, as a crash leaves it: the bytes end
+/// in a fragment, or in zeros in its place, and no record ends after it.
 pub fn left_out(text: &[u8]) -> Option<LeftOut>
     ensures loses { LosesRecords text.now → IsSomeAnd result (λ left. IsTrue left.has_records) }
+    ensures lost { IfSome result (λ left. IsTrue left.has_records → LosesRecords text.now) }
     ensures counts { IfSome result (λ left. left.from + left.count ≡ length text.now) }
 {
     let scan = scan_of(text, usize::MAX);
@@ -81,6 +82,8 @@ pub fn left_after(text: &[u8], records: usize) -> LeftOut
 fn scan_of(text: &[u8], records: usize) -> Scan
     ensures whole { AreWholeUpTo text.now result.end result.is_open result.has_data }
     ensures within { result.end ≤ length text.now }
+    ensures stops { (2 * records ≤ length text.now)
+        ⊎ NoneGoesOn text.now result.end result.is_open result.has_data }
     ensures records { result.records_end ≤ result.end }
 {
     let mut left = records;
@@ -110,7 +113,7 @@ impl Scan {
     fn may_take(&self, found: Whole) -> bool
         ensures { (parts : List (List ℕ)) → HasBegun parts self.now.is_open self.now.has_data
             → (fragment : Fragment) → IsOfKind fragment found.kind found.has_data
-            → IsTrue result → ContinuesRecord parts fragment }
+            → IsTrue result ↔ ContinuesRecord parts fragment }
     {
         match found.kind {
             1 => !self.is_open && found.has_data,
@@ -142,7 +145,7 @@ impl Scan {
 
 // Whether at this offset or after it a whole fragment begins that ends a record.
 fn has_end_from(text: &[u8], from: usize) -> bool
-    ensures { HasEndFrom text.now from → IsTrue result }
+    ensures { IsTrue result ↔ HasEndFrom text.now from }
 {
     for at in from..text.len() {
         if starts_with_end(&text[at..], at % BLOCK_SIZE) {
@@ -156,7 +159,7 @@ fn has_end_from(text: &[u8], from: usize) -> bool
 // record.
 fn starts_with_end(rest: &[u8], offset: usize) -> bool
     requires { offset < log_block_size }
-    ensures { StartsWithEnd offset rest.now → IsTrue result }
+    ensures { IsTrue result ↔ StartsWithEnd offset rest.now }
 {
     let Some(body) = after_filler(rest, offset) else {
         return false;
@@ -173,7 +176,8 @@ fn whole_at(rest: &[u8], offset: usize) -> Option<Whole>
     ensures whole { IfSome result (λ found. IsWholeFront offset rest.now found.count found.kind
         found.has_data) }
     ensures within { IfSome result (λ found. found.count ≤ length rest.now) }
-    ensures some { IfSome result (λ found. 0 < found.count) }
+    ensures some { IfSome result (λ found. 7 ≤ found.count) }
+    ensures none { IfNone result (NoFragment true log_block_size offset rest.now) }
 {
     let body = after_filler(rest, offset)?;
     let fragment = headed(body, offset)?;

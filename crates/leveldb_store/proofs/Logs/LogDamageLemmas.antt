@@ -1,5 +1,5 @@
 -- What is left out of a log's bytes, fragment by fragment.
-use Rattle.std.specs.Prelude.{IfNone, IsTrue, Option, None, Some, if◌then◌else◌, slice_index}
+use Rattle.std.specs.Prelude.{IfNone, IsTrue, Option, None, Some, not, if◌then◌else◌, slice_index}
 use Rattle.std.specs.List.{concat}
 use Rattle.std.proofs.Common.{◌≡◌, ◌≢◌, ◌∙◌, ◌⊎◌, ◌↔◌, ◌==◌, ◌||◌, inl, inr, ⊎_elim, nat_le, Bool, ◌≤◌, ◌<◌, ◌+◌, ◌*◌, ◌-◌, ◌%◌, ℕ, List, [], ◌∷◌, ◌++◌, length, take, drop, replicate, ap, append_assoc, arith, length-append, refl, subst, sym, false, true}
 use Rattle.std.specs.List.{All}
@@ -12,8 +12,8 @@ use Rattle.leveldb_base.specs.Varint.{little}
 use Rattle.leveldb_mem.proofs.FragmentLemmas.{filler-ends, filler-fits, headed_fragment, length-checksum, length-fragment, none_cut_short, none_past_block, none_short, none_unfilled, one_fragment, unchecked}
 use Rattle.leveldb_mem.specs.Log.{AreFragments, Fragment, IsFragment, NoFragment, checksum, filler, fragment_bytes, fragment_of, log_block_size, offset_after, room}
 use Rattle.leveldb_mem.specs.Log.Taking.{HasRightChecksum, declared_length}
-use Rattle.leveldb_store.proofs.Logs.PlacedFragmentsLemmas.{begun_placed, concat_more, continue_then, log_placed, placed_then, whole_more, within_placed}
-use Rattle.leveldb_store.specs.Logs.Damage.{AreWholeUpTo, ContinuesRecord, EndsRecord, HasBegun, HasEndFrom, IsHeaded, IsOfKind, IsWholeFront, LosesRecords, StartsWithEnd, parts_after}
+use Rattle.leveldb_store.proofs.Logs.PlacedFragmentsLemmas.{begun_placed, concat_more, continue_then, log_placed, placed_then, records_placed, whole_more, within_placed}
+use Rattle.leveldb_store.specs.Logs.Damage.{AreWholeUpTo, ContinuesRecord, EndsRecord, HasBegun, HasEndFrom, IsHeaded, IsOfKind, IsWholeFront, LosesRecords, NoneContinues, NoneGoesOn, StartsWithEnd, parts_after}
 
 abbrev block : ℕ
 block = log_block_size
@@ -139,17 +139,38 @@ module _ (offset : ℕ) (body fragment : List ℕ) (h : IsHeaded offset body fra
     rest_goes : rest ≡ (filler block offset ++ fragment) ++ h.more
     rest_goes = rest_is ∙ ap (λ z. filler block offset ++ z) h.bytes_are ∙ sym (append_assoc (filler block offset) fragment h.more)
 
-    pub headed_end : (it : StartsWithEnd offset rest) → EndsRecord h.header × HasRightChecksum fragment
-    headed_end it =
-        let same = one_fragment false block fits offset it.fragment h.header it.front (filler block offset ++ fragment) it.more h.more
-        (unchecked true block it.fragment offset it.front it.whole) h.unchecked (sym it.bytes_are ∙ rest_goes) in
-        let bytes : filler block offset ++ fragment_bytes it.whole.sum it.fragment ≡ filler block offset ++ fragment_bytes h.unchecked.sum h.header =
-        sym it.whole.bytes_are ∙ same.1 ∙ h.unchecked.bytes_are in
-        let sums : it.whole.sum ≡ h.unchecked.sum =
-        sym (parts_of it.whole.sum it.fragment (ap length it.whole.summed ∙ length-checksum it.fragment)).1
+    headed_as : (f : Fragment) (front more : List ℕ) → rest ≡ front ++ more → (whole : IsFragment true block f offset front)
+        → (f ≡ h.header) × HasRightChecksum fragment
+    headed_as f front more is whole =
+        let same = one_fragment false block fits offset f h.header front (filler block offset ++ fragment) more h.more
+        (unchecked true block f offset front whole) h.unchecked (sym is ∙ rest_goes) in
+        let bytes : filler block offset ++ fragment_bytes whole.sum f ≡ filler block offset ++ fragment_bytes h.unchecked.sum h.header =
+        sym whole.bytes_are ∙ same.1 ∙ h.unchecked.bytes_are in
+        let sums : whole.sum ≡ h.unchecked.sum =
+        sym (parts_of whole.sum f (ap length whole.summed ∙ length-checksum f)).1
         ∙ ap (take 4) (append_cancel_left (filler block offset) _ _ bytes)
         ∙ (parts_of h.unchecked.sum h.header h.unchecked.summed).1 in
-        (subst EndsRecord same.0 it.ends, sum_right (sym sums ∙ it.whole.summed ∙ ap checksum same.0))
+        (same.0, sum_right (sym sums ∙ whole.summed ∙ ap checksum same.0))
+
+    pub headed_end : (it : StartsWithEnd offset rest) → EndsRecord h.header × HasRightChecksum fragment
+    headed_end it =
+        let is = headed_as it.fragment it.front it.more it.bytes_are it.whole in
+        (subst EndsRecord is.0 it.ends, is.1)
+
+    -- it is whole and ends a record
+    pub headed_starts : EndsRecord h.header → HasRightChecksum fragment → StartsWithEnd offset rest
+    headed_starts ends right = record {
+      fragment = h.header;
+      ends = ends;
+      front = filler block offset ++ fragment;
+      more = h.more;
+      bytes_are = rest_goes;
+      whole = headed_whole right;
+    }
+
+    -- none is whole where its checksum is wrong
+    pub none_headed : (HasRightChecksum fragment → ⊥) → NoFragment true block offset rest
+    none_headed wrong f front more is whole = wrong (headed_as f front more is whole).1
 
     -- how far it goes
     headed_count : (count : ℕ) → count ≡ length rest - length body + length fragment → (count ≤ length rest) × (take count rest ≡ filler block offset ++ fragment)
@@ -197,6 +218,10 @@ whole_front offset body fragment h rest rest_is count is right has_data long =
       whole = subst (IsFragment true block h.header offset) (sym front.1) (headed_whole offset body fragment h right);
       is_kind = kind_of offset body fragment h has_data long;
     }
+
+-- nor is one where none begins without a checksum
+pub none_checked : (offset : ℕ) (rest : List ℕ) → NoFragment false block offset rest → NoFragment true block offset rest
+none_checked offset rest none f front more is whole = none f front more is (unchecked true block f offset front whole)
 
 -- no fragment begins where none does without a checksum
 pub no_end : (offset : ℕ) (rest : List ℕ) → NoFragment false block offset rest → StartsWithEnd offset rest → ⊥
@@ -246,7 +271,92 @@ lost_later text end is_open has_data within whole loses =
     let count = length-take-le end text within in
     (loses.later.0, omega (arith, least, count, loses.later.1), loses.later.2)
 
+-- and so bytes whose whole fragments go no further lose records if an end comes after them
+pub loses_there : (text : List ℕ) (end : ℕ) (is_open has_data : Bool) → end ≤ length text → AreWholeUpTo text end is_open has_data
+    → NoneGoesOn text end is_open has_data → HasEndFrom text end → LosesRecords text
+loses_there text end is_open has_data within whole none later =
+    let all = records_placed whole.fragments whole.parts (take end text) whole.whole whole.placed in
+    let count : length (all.front ++ all.begun) ≡ end = ap length (sym all.bytes_are) ∙ length-take-le end text within in
+    let zero_end : 0 + end ≡ end = omega arith in
+    let here : offset_after block 0 (all.front ++ all.begun) ≡ end % block = ap (λ n. (0 + n) % block) count ∙ ap (λ n. n % block) zero_end in
+    record {
+      records = all.records;
+      front = all.front;
+      read = all.read;
+      parts = whole.parts;
+      begun = all.begun;
+      laid = all.laid;
+      rest = drop end text;
+      bytes_are = sym (take-append-drop end text) ∙ ap (λ z. z ++ drop end text) all.bytes_are;
+      none = subst (λ o. NoneContinues whole.parts o (drop end text)) (sym here) (none whole.parts whole.begun);
+      later = subst (HasEndFrom text) (sym count) later;
+    }
+
+-- no fragment goes on where none begins
+pub none_goes_on : (text : List ℕ) (end : ℕ) (is_open has_data : Bool) → NoFragment true block (end % block) (drop end text)
+    → NoneGoesOn text end is_open has_data
+none_goes_on text end is_open has_data none parts begun f continues front more is whole = none f front more is whole
+
+-- nor where the one that begins doesn't
+pub other_goes_on : (text : List ℕ) (end count kind : ℕ) (is_open has_data has : Bool) → IsWholeFront (end % block) (drop end text) count kind has
+    → ((parts : List (List ℕ)) → HasBegun parts is_open has_data → (f : Fragment) → IsOfKind f kind has → ContinuesRecord parts f → ⊥)
+    → NoneGoesOn text end is_open has_data
+other_goes_on text end count kind is_open has_data has found other parts begun f continues front more is whole =
+    let same = one_fragment true block fits (end % block) f found.fragment front (take count (drop end text)) more (drop count (drop end text))
+    whole found.whole (sym is ∙ sym (take-append-drop count (drop end text))) in
+    other parts begun found.fragment found.is_kind (subst (ContinuesRecord parts) same.0 continues)
+
 -- ---- what may come next
+
+-- a number by a bool is one at most if both are
+pub at_most_one : (number : Bool → ℕ) → number true ≤ 1 → number false ≤ 1 → (b : Bool) → number b ≤ 1
+at_most_one number one other true = one
+at_most_one number one other false = other
+
+-- a fragment of this type, with data or without, may come where a record is open or isn't, and has
+-- data or hasn't
+abbrev pub MayCome : ℕ → Bool → Bool → Bool → Type 0
+MayCome kind is_open has_data has = ((kind ≡ 1) × (is_open ≡ false) × IsTrue has) ⊎ ((kind ≡ 2) × (is_open ≡ false))
+    ⊎ ((kind ≡ 3) × IsTrue is_open) ⊎ ((kind ≡ 4) × IsTrue is_open × (IsTrue has_data ⊎ IsTrue has))
+
+module _ (kind : ℕ) (is_open has_data has : Bool) where
+  pub full_comes : MayCome kind is_open has_data has → kind ≡ 1 → (is_open ≡ false) × IsTrue has
+  full_comes (inl one) e = (one.1, one.2)
+  full_comes (inr (inl two)) e = absurd (omega (arith, two.0, e))
+  full_comes (inr (inr (inl three))) e = absurd (omega (arith, three.0, e))
+  full_comes (inr (inr (inr four))) e = absurd (omega (arith, four.0, e))
+
+  pub first_comes : MayCome kind is_open has_data has → kind ≡ 2 → is_open ≡ false
+  first_comes (inl one) e = absurd (omega (arith, one.0, e))
+  first_comes (inr (inl two)) e = two.1
+  first_comes (inr (inr (inl three))) e = absurd (omega (arith, three.0, e))
+  first_comes (inr (inr (inr four))) e = absurd (omega (arith, four.0, e))
+
+  pub middle_comes : MayCome kind is_open has_data has → kind ≡ 3 → IsTrue is_open
+  middle_comes (inl one) e = absurd (omega (arith, one.0, e))
+  middle_comes (inr (inl two)) e = absurd (omega (arith, two.0, e))
+  middle_comes (inr (inr (inl three))) e = three.1
+  middle_comes (inr (inr (inr four))) e = absurd (omega (arith, four.0, e))
+
+  pub last_comes : MayCome kind is_open has_data has → kind ≡ 4 → IsTrue is_open × (IsTrue has_data ⊎ IsTrue has)
+  last_comes (inl one) e = absurd (omega (arith, one.0, e))
+  last_comes (inr (inl two)) e = absurd (omega (arith, two.0, e))
+  last_comes (inr (inr (inl three))) e = absurd (omega (arith, three.0, e))
+  last_comes (inr (inr (inr four))) e = (four.1, four.2)
+
+  pub no_other_comes : MayCome kind is_open has_data has → kind ≢ 1 → kind ≢ 2 → kind ≢ 3 → kind ≢ 4 → ⊥
+  no_other_comes (inl one) a b c d = a one.0
+  no_other_comes (inr (inl two)) a b c d = b two.0
+  no_other_comes (inr (inr (inl three))) a b c d = c three.0
+  no_other_comes (inr (inr (inr four))) a b c d = d four.0
+
+pub opened_not : (b : Bool) → IsTrue (not b) → b ≡ false
+opened_not true is = absurd (let never : false ≡ true = is in cc)
+opened_not false is = refl
+
+pub not_opened : (b : Bool) → b ≡ false → IsTrue (not b)
+not_opened true is = absurd (let never : true ≡ false = is in cc)
+not_opened false is = refl
 
 -- a record is open or isn't, by a fragment that may come next
 module _ (parts : List (List ℕ)) (is_open has_data : Bool) (begun : HasBegun parts is_open has_data) (f : Fragment) (kind : ℕ) (has : Bool) (is : IsOfKind f kind has) where
@@ -284,6 +394,47 @@ module _ (parts : List (List ℕ)) (is_open has_data : Bool) (begun : HasBegun p
       both : (a b : List ℕ) → a ++ b ≡ [] → (a ≡ []) × (b ≡ [])
       both [] b none = (refl, none)
       both (x ∷ a) b none = absurd cc
+
+  -- and it goes on only so
+  continues_so : ContinuesRecord parts f → MayCome kind is_open has_data has
+  continues_so continues = by parts refl continues
+    where
+      closed : parts ≡ [] → is_open ≡ false
+      closed none = of is_open refl
+        where
+          of : (b : Bool) → is_open ≡ b → is_open ≡ false
+          of true opened = absurd (begun.opened.0 opened none)
+          of false same = same
+
+      filled : concat parts ++ f.part ≢ [] → IsTrue has_data ⊎ IsTrue has
+      filled some = of (concat parts) refl
+        where
+          of : (a : List ℕ) → concat parts ≡ a → IsTrue has_data ⊎ IsTrue has
+          of [] same = inr (is.filled.1 (λ none. some (ap (λ z. z ++ f.part) same ∙ none)))
+          of (x ∷ a) same = inl (begun.filled.1 (λ none. (let never : x ∷ a ≡ [] = sym same ∙ none in cc)))
+
+      by : (those : List (List ℕ)) → parts ≡ those → ContinuesRecord those f → MayCome kind is_open has_data has
+      by [] same (inl two) = inr (inl (sym is.type ∙ two, closed same))
+      by [] same (inr full) = inl (sym is.type ∙ full.0, closed same, is.filled.1 full.1)
+      by (first ∷ more) same (inl three) = inr (inr (inl (
+        sym is.type ∙ three,
+        begun.opened.1 (λ none. (let never : first ∷ more ≡ [] = sym same ∙ none in cc)),
+      )))
+      by (first ∷ more) same (inr last) = inr (inr (inr (
+        sym is.type ∙ last.0,
+        begun.opened.1 (λ none. (let never : first ∷ more ≡ [] = sym same ∙ none in cc)),
+        filled (λ none. last.1 (ap (λ p. concat p ++ f.part) (sym same) ∙ none)),
+      )))
+
+  so_continues : MayCome kind is_open has_data has → ContinuesRecord parts f
+  so_continues (inl one) = full_continues one.1 one.2 one.0
+  so_continues (inr (inl two)) = first_continues two.1 two.0
+  so_continues (inr (inr (inl three))) = middle_continues three.1 three.0
+  so_continues (inr (inr (inr four))) = last_continues four.1 four.2 four.0
+
+  pub continues_if : (result : Bool) → (IsTrue result → MayCome kind is_open has_data has)
+      → (MayCome kind is_open has_data has → IsTrue result) → IsTrue result ↔ ContinuesRecord parts f
+  continues_if result comes may = (λ yes. so_continues (comes yes), λ continues. may (continues_so continues))
 
   -- after one that ends the record none is open
   pub begun_ended : (kind ≡ 1) ⊎ (kind ≡ 4) → HasBegun (parts_after parts f) false false

@@ -1,6 +1,6 @@
 -- Fragments in their places: those of records, one after another, and those of a record that has
 -- begun.
-use Rattle.std.proofs.Common.{◌≡◌, ◌≢◌, ◌∙◌, inl, inr, ◌≤◌, ◌<◌, ℕ, Bool, List, [], ◌∷◌, ◌++◌, length, ap, append-nil, append_assoc, arith, length-append, refl, subst, sym, false, true}
+use Rattle.std.proofs.Common.{◌≡◌, ◌≢◌, ◌∙◌, ◌⊎◌, inl, inr, ⊎_elim, ◌≤◌, ◌<◌, ℕ, Bool, List, [], ◌∷◌, ◌++◌, length, ap, append-nil, append_assoc, arith, length-append, refl, subst, sym, false, true}
 use Rattle.std.specs.List.{concat}
 use Rattle.std.proofs.lemmas.List.Folds.{concat-append}
 use Rattle.leveldb_mem.proofs.FragmentLemmas.{in_front, one_fragment}
@@ -20,7 +20,7 @@ inside offset bytes = omega arith
 -- ---- a record that has begun
 
 -- no part has begun one
-abbrev pub is_new : List (List ℕ) → Bool
+abbrev is_new : List (List ℕ) → Bool
 is_new [] = true
 is_new (part ∷ parts) = false
 
@@ -190,3 +190,194 @@ within_placed offset small (f ∷ fs) (g ∷ gs) s now those a x front rest are 
     let all = ap length are.bytes_are ∙ length-append are.front are.rest in
     let mine = ap length others.bytes_are ∙ length-append others.front others.rest in
     omega arith
+
+-- ---- the records of fragments in their places
+
+-- how a fragment goes on: it is the next part of the record, or the last one
+continues_as : (before : List (List ℕ)) (f : Fragment) → ContinuesRecord before f
+    → (f ≡ fragment_of (record_type (is_new before) false) f.part)
+    ⊎ ((f ≡ fragment_of (record_type (is_new before) true) f.part) × (concat before ++ f.part ≢ []))
+continues_as [] f (inl next) = inl (ap (λ t. fragment_of t f.part) next)
+continues_as [] f (inr last) = inr (ap (λ t. fragment_of t f.part) last.0, last.1)
+continues_as (first ∷ parts) f (inl next) = inl (ap (λ t. fragment_of t f.part) next)
+continues_as (first ∷ parts) f (inr last) = inr (ap (λ t. fragment_of t f.part) last.0, last.1)
+
+-- the bytes are parts alone, which go on with the record that those before have begun
+record OnlyGoesOn (offset : ℕ) (before : List (List ℕ)) (bytes : List ℕ) (those : List (List ℕ)) : Type 0 where
+  more : List (List ℕ)
+  those_are : those ≡ before ++ more
+  laid : AreFragments true block (begun_of (is_new before) more) offset bytes
+
+-- the bytes begin with what is left of that record; then come whole records, and then parts that
+-- have begun one
+record EndsFirst (offset : ℕ) (before : List (List ℕ)) (bytes : List ℕ) (those : List (List ℕ)) : Type 0 where
+  part : List ℕ
+  parts : List (List ℕ)
+  some : concat before ++ (part ++ concat parts) ≢ []
+  head : List ℕ
+  front : List ℕ
+  begun : List ℕ
+  records : List (List ℕ)
+  bytes_are : bytes ≡ head ++ (front ++ begun)
+  ended : AreFragments true block (fragments_of (is_new before) part parts) offset head
+  read : LogOf true block records clean (offset_after block offset head) front
+  laid : AreFragments true block (begun_of true those) (offset_after block offset (head ++ front)) begun
+
+abbrev Splits : ℕ → List (List ℕ) → List ℕ → List (List ℕ) → Type 0
+Splits offset before bytes those = OnlyGoesOn offset before bytes those ⊎ EndsFirst offset before bytes those
+
+module _ (offset : ℕ) (before those : List (List ℕ)) (bytes : List ℕ) (f : Fragment) (fs : List Fragment)
+    (are : AreFragments true block (f ∷ fs) offset bytes) where
+  abbrev after : ℕ
+  after = offset_after block offset are.front
+
+  -- one part before what is left
+  split_next : f ≡ fragment_of (record_type (is_new before) false) f.part
+      → Splits after (before ++ f.part ∷ []) are.rest those → Splits offset before bytes those
+  split_next is (inl only) = inl (record {
+    more = f.part ∷ only.more;
+    those_are = only.those_are ∙ append_assoc before (f.part ∷ []) only.more;
+    laid = record {
+      front = are.front;
+      rest = are.rest;
+      bytes_are = are.bytes_are;
+      is_front = subst (λ g. IsFragment true block g offset are.front) is are.is_front;
+      is_rest = subst (λ b. AreFragments true block (begun_of b only.more) after are.rest) (one_more_old before f.part) only.laid;
+    };
+  })
+  split_next is (inr ends) = inr (record {
+    part = f.part;
+    parts = ends.part ∷ ends.parts;
+    some = λ none. ends.some (ap (λ z. z ++ (ends.part ++ concat ends.parts)) (concat_more before f.part)
+        ∙ append_assoc (concat before) f.part (ends.part ++ concat ends.parts) ∙ none);
+    head = are.front ++ ends.head;
+    front = ends.front;
+    begun = ends.begun;
+    records = ends.records;
+    bytes_are = are.bytes_are ∙ ap (λ z. are.front ++ z) ends.bytes_are
+        ∙ sym (append_assoc are.front ends.head (ends.front ++ ends.begun));
+    ended = record {
+      front = are.front;
+      rest = ends.head;
+      bytes_are = refl;
+      is_front = subst (λ g. IsFragment true block g offset are.front) is are.is_front;
+      is_rest = subst (λ b. AreFragments true block (fragments_of b ends.part ends.parts) after ends.head) (one_more_old before f.part) ends.ended;
+    };
+    read = subst (λ o. LogOf true block ends.records clean o ends.front)
+        (offset_after_both block offset are.front ends.head (are.front ++ ends.head) refl) ends.read;
+    laid = subst (λ o. AreFragments true block (begun_of true those) o ends.begun)
+        (offset_after_both block offset are.front (ends.head ++ ends.front) ((are.front ++ ends.head) ++ ends.front)
+        (append_assoc are.front ends.head ends.front)) ends.laid;
+  })
+
+  -- the last part before what comes after the record
+  split_last : f ≡ fragment_of (record_type (is_new before) true) f.part → concat before ++ f.part ≢ []
+      → Splits after [] are.rest those → Splits offset before bytes those
+  split_last is filled sub = inr (by sub)
+    where
+      some : concat before ++ (f.part ++ concat []) ≢ []
+      some none = filled (ap (λ z. concat before ++ z) (sym (append-nil f.part)) ∙ none)
+
+      ended : AreFragments true block (fragments_of (is_new before) f.part []) offset are.front
+      ended = record {
+        front = are.front;
+        rest = [];
+        bytes_are = sym (append-nil are.front);
+        is_front = subst (λ g. IsFragment true block g offset are.front) is are.is_front;
+        is_rest = refl;
+      }
+
+      by : Splits after [] are.rest those → EndsFirst offset before bytes those
+      by (inl only) = record {
+        part = f.part;
+        parts = [];
+        some = some;
+        head = are.front;
+        front = [];
+        begun = are.rest;
+        records = [];
+        bytes_are = are.bytes_are;
+        ended = ended;
+        read = refl;
+        laid = subst (λ z. AreFragments true block (begun_of true those) (offset_after block offset z) are.rest) (sym (append-nil are.front))
+            (subst (λ m. AreFragments true block (begun_of true m) after are.rest) (sym only.those_are) only.laid);
+      }
+      by (inr ends) = record {
+        part = f.part;
+        parts = [];
+        some = some;
+        head = are.front;
+        front = ends.head ++ ends.front;
+        begun = ends.begun;
+        records = (ends.part ++ concat ends.parts) ∷ ends.records;
+        bytes_are = are.bytes_are ∙ ap (λ z. are.front ++ z) (ends.bytes_are ∙ sym (append_assoc ends.head ends.front ends.begun));
+        ended = ended;
+        read = record {
+          front = ends.head;
+          rest = ends.front;
+          bytes_are = refl;
+          is_front = record {
+            some = ends.some;
+            whole = record { part = ends.part; parts = ends.parts; text_is = refl; laid = ends.ended };
+          };
+          is_rest = ends.read;
+        };
+        laid = subst (λ o. AreFragments true block (begun_of true those) o ends.begun)
+            (offset_after_both block offset are.front (ends.head ++ ends.front) (are.front ++ (ends.head ++ ends.front)) refl) ends.laid;
+      }
+
+split_placed : (offset : ℕ) → (fs : List Fragment) (before those : List (List ℕ)) (bytes : List ℕ)
+    → AreFragments true block fs offset bytes → ContinueInTurn before fs those → Splits offset before bytes those
+split_placed offset [] before those bytes none go =
+    inl (record { more = []; those_are = go ∙ sym (append-nil before); laid = none })
+split_placed offset (f ∷ fs) before those bytes are go = ⊎_elim
+    (λ (next : f ≡ fragment_of (record_type (is_new before) false) f.part).
+    split_next offset before those bytes f fs are next
+    (split_placed (offset_after block offset are.front) fs (before ++ f.part ∷ []) those are.rest are.is_rest
+    (subst (λ s. ContinueInTurn s fs those) (ap (parts_after before) next ∙ after_next before f.part) go.1)))
+    (λ (last : (f ≡ fragment_of (record_type (is_new before) true) f.part) × (concat before ++ f.part ≢ [])).
+    split_last offset before those bytes f fs are last.0 last.1
+    (split_placed (offset_after block offset are.front) fs [] those are.rest are.is_rest
+    (subst (λ s. ContinueInTurn s fs those) (ap (parts_after before) last.0 ∙ after_last before f.part) go.1)))
+    (continues_as before f go.0)
+
+-- bytes that are whole records, and then parts that have begun one
+pub record AreRecordsAndParts (bytes : List ℕ) (parts : List (List ℕ)) : Type 0 where
+  pub records : List (List ℕ)
+  pub front : List ℕ
+  pub begun : List ℕ
+  pub bytes_are : bytes ≡ front ++ begun
+  pub read : LogOf true block records clean 0 front
+  pub laid : AreFragments true block (begun_of true parts) (offset_after block 0 front) begun
+
+-- fragments in their places are so
+pub records_placed : (fs : List Fragment) (parts : List (List ℕ)) (bytes : List ℕ) → AreFragments true block fs 0 bytes
+    → ContinueInTurn [] fs parts → AreRecordsAndParts bytes parts
+records_placed fs parts bytes are go = by (split_placed 0 fs [] parts bytes are go)
+  where
+    by : Splits 0 [] bytes parts → AreRecordsAndParts bytes parts
+    by (inl only) = record {
+      records = [];
+      front = [];
+      begun = bytes;
+      bytes_are = refl;
+      read = refl;
+      laid = subst (λ m. AreFragments true block (begun_of true m) 0 bytes) (sym only.those_are) only.laid;
+    }
+    by (inr ends) = record {
+      records = (ends.part ++ concat ends.parts) ∷ ends.records;
+      front = ends.head ++ ends.front;
+      begun = ends.begun;
+      bytes_are = ends.bytes_are ∙ sym (append_assoc ends.head ends.front ends.begun);
+      read = record {
+        front = ends.head;
+        rest = ends.front;
+        bytes_are = refl;
+        is_front = record {
+          some = ends.some;
+          whole = record { part = ends.part; parts = ends.parts; text_is = refl; laid = ends.ended };
+        };
+        is_rest = ends.read;
+      };
+      laid = ends.laid;
+    }

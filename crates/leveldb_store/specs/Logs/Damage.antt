@@ -112,6 +112,11 @@ pub record AreWholeUpTo (bytes : List ℕ) (end : ℕ) (is_open has_data : Bool)
   pub placed : ContinueInTurn [] fragments parts
   pub begun : HasBegun parts is_open has_data
 
+-- where the bytes are whole up to this offset, no fragment goes on from there
+abbrev pub NoneGoesOn : List ℕ → ℕ → Bool → Bool → Type 0
+NoneGoesOn bytes end is_open has_data = (parts : List (List ℕ)) → HasBegun parts is_open has_data
+    → NoneContinues parts (end % log_block_size) (drop end bytes)
+
 -- a fragment is of this type, and has data or hasn't
 pub record IsOfKind (fragment : Fragment) (kind : ℕ) (has_data : Bool) : Type 0 where
   pub type : fragment.type ≡ kind
