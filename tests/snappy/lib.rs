@@ -1,0 +1,13 @@
+//! The tests of Snappy.
+
+#[cfg(test)]
+mod damaged;
+#[cfg(test)]
+mod long;
+#[cfg(test)]
+mod round_trips;
+mod slow;
+#[cfg(test)]
+mod texts;
+#[cfg(test)]
+mod vectors;
