@@ -20,7 +20,7 @@ TOP = pathlib.Path(__file__).resolve().parent.parent
 # the crate whose modules the suites are
 JOINED = "suites"
 # the programs under tests/, which the gate doesn't prove
-PROGRAMS = ("db_bench", "disk_trials")
+PROGRAMS = ("db_bench", "disk_trials", "snappy_trials")
 # the module of a suite whose tests take minutes
 LONG = "long"
 TEST = re.compile(r"^ *#\[test\]\n(?: *#\[.*\]\n)* *(?:pub )?fn (\w+)", re.MULTILINE)
