@@ -92,11 +92,11 @@ module _ {E C FP F P : Type 0} {B : Boxed} {keys : InternalOrder C} {key_filters
 
   -- the store as it was opened, which keeps its files or not
   abbrev value : OpenStoreValue C
-  value = keeping first engine.store.keeps_files
+  value = keeping first engine.store.kept_to
 
   opens : OpensStore env store asked.format asked.create_if_missing asked.error_if_exists taken limit
       (Ok value) opened
-  opens = opens_keeping first engine.store.keeps_files env store asked.format
+  opens = opens_keeping first engine.store.kept_to env store asked.format
       asked.create_if_missing asked.error_if_exists taken limit opened opens_first
 
   -- what the end of the opening keeps

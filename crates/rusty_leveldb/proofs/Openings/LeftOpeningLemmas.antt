@@ -93,10 +93,10 @@ module _ {E F C FP D P : Type 0} (order : CmpGhosts (InternalKeyCmp C)) (env : G
     (e : Status) (new : OpenStoreValue C) (now : TableCache E C FP F)
     (ends : EndsOpening order env by first opened cache choices (Err e) new to now) where
   abbrev value : OpenStoreValue C
-  value = keeping first new.keeps_files
+  value = keeping first new.kept_to
 
   opens : OpensStore env store format create_if_missing error_if_exists taken limit (Ok value) opened
-  opens = opens_keeping first new.keeps_files env store format create_if_missing error_if_exists
+  opens = opens_keeping first new.kept_to env store format create_if_missing error_if_exists
       taken limit opened opens_first
 
   keeps_in : IsTrue env.models_disk → (meaning : Meaning) → Agrees format meaning

@@ -1,24 +1,41 @@
-use Rattle.std.proofs.Common.{◌≡◌, ◌∙◌, ap, map, subst, sym}
+use Rattle.std.proofs.Common.{◌≡◌, ◌∙◌, ◌∷◌, [], arith, map, refl, subst, sym, take}
 use Rattle.std.specs.Prelude.{string_bytes}
-use Rattle.leveldb_env.proofs.EnvLemmas.{Run-call}
-use Rattle.leveldb_env.specs.Env.{Files, ListsChildren}
-use Rattle.leveldb_store.specs.Logs.Damage.{IsDamagedFile}
-use Rattle.leveldb_store.proofs.Keeping.DamageLemmas.{listed_damaged}
+use Rattle.std.proofs.lemmas.List.{length-map, take_all}
+use Rattle.leveldb_table.proofs.TableBlockLemmas.{KeepsDisk-refl, KeepsDisk-trans, same_files}
+use Rattle.leveldb_store.specs.Openings.EndsOpening.{LooksAtNames}
+use Rattle.leveldb_store.proofs.Keeping.DamageLemmas.{looks_at_more, looks_at_none}
+use Rattle.leveldb_store.proofs.Keeping.RemoveLemmas.{next_item}
 use Rattle.leveldb_store.proofs.open_store.OpenStore.tell_damage.Goals as goal
 
-pub returns-clause-damaged : goal.returns-clause-damaged
-returns-clause-damaged g c = λ modelled has.
+pub loop-name-init : goal.loop-name-init
+loop-name-init g c = record {
+  looks = looks_at_none g.E.Env c.args.self.now.set c.args.env.now;
+  keeps = KeepsDisk-refl g.E.Env c.args.env.now;
+  log = refl;
+}
+
+pub loop-name-preserved : goal.loop-name-preserved
+loop-name-preserved g c =
     let set = c.args.self.now.set in
-    let files = (g.E.Env.observed c.args.env.now).disk.files in
-    let names = map string_bytes c.deref-2.result.now in
-    let same_set : c.self.inside.versions.set ≡ set = ap (λ v. v.set) c.self.view_is in
-    let folder : c.deref.result.now ≡ set.store =
-    c.deref.ensures ∙ sym c.self.invariant.0 ∙ ap (λ v. v.store) same_set in
-    let listed : ListsChildren files set.store names =
-    subst (λ s. ListsChildren files s names) folder
-    (subst (λ items. ListsChildren files c.deref.result.now (map string_bytes items))
-    (sym c.deref-2.ensures.value) (c.in-Ok.ensures.ok modelled)) in
-    c.tell_damage_of.ensures.damaged modelled has.0
-    (listed_damaged set files names listed has.0 has.1)
-    (subst (λ (f : Files). IsDamagedFile set f has.0)
-    (sym (Run-call modelled c.in-Ok.ensures.does).has) has.1)
+    let from = c.args.env.now in
+    let names = c.args.names.now in
+    let i = c.loop-name.name-index in
+    let item = c.name-item.result in
+    let inv = c.loop-name.invariant in
+    let said = c.tell_damage_at.ensures in
+    let next = next_item string_bytes names i item (omega arith) c.name-item.is in
+    record {
+      looks = subst (λ done. LooksAtNames g.E.Env set from done c.either-is_damaged.result c.tell_damage_at.new.env) (sym next.0)
+          (looks_at_more g.E.Env set from (take i (map string_bytes names)) (string_bytes item) c.loop-name.is_damaged c.tell_damage_at.result
+          c.loop-name.env c.tell_damage_at.new.env inv.looks (λ modelled. same_files g.E.Env inv.keeps modelled)
+          (subst (λ name. LooksAtNames g.E.Env set c.loop-name.env (name ∷ []) c.tell_damage_at.result c.tell_damage_at.new.env) c.deref.ensures said.looks)
+          c.either-is_damaged.result c.either-is_damaged.ensures);
+      keeps = KeepsDisk-trans g.E.Env inv.keeps said.keeps;
+      log = said.log ∙ inv.log;
+    }
+
+pub returns-clause-looks : goal.returns-clause-looks
+returns-clause-looks g c =
+    let all : take c.loop-name.name-index (map string_bytes c.args.names.now) ≡ map string_bytes c.args.names.now =
+    take_all c.loop-name.name-index (map string_bytes c.args.names.now) (simp length-map (omega arith)) in
+    subst (λ names. LooksAtNames g.E.Env c.args.self.now.set c.args.env.now names c.loop-name.is_damaged c.loop-name.env) all c.loop-name.invariant.looks
