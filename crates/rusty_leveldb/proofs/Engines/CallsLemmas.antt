@@ -149,6 +149,8 @@ module _ {E C FP F P : Type 0} {B : Boxed} {keys : InternalOrder C} {key_filters
           written = tt;
           waits = tt;
           logs = tt;
+          compacts = tt;
+          looks = inr (refl, inl why);
           failed = (inr refl, (refl, λ room. (refl, refl)));
           entries = kept_as_they_are env (formats (engine_options before)) before.store at;
           breaks = inr (inl refl);
@@ -450,7 +452,7 @@ module _ {E C FP F P : Type 0} {B : Boxed} {keys : InternalOrder C} {key_filters
           step = step;
           refused_by_mode = λ refused_by_mode. (refl, refl, inl why);
           way = inl (refl, refl, inl why);
-          reads = (refl, refl);
+          reads = (refl, refl, refl);
           snapshots = refl;
           options = record { rest = refl; sink = refl };
           rest = rest_still env before from (get snapshot key) (Err status) (inr (status, refl));
@@ -471,7 +473,7 @@ module _ {E C FP F P : Type 0} {B : Boxed} {keys : InternalOrder C} {key_filters
             step = step;
             refused_by_mode = λ refused_by_mode. absurd (usable refused_by_mode);
             way = inl (refl, refl, inr (inl (code, misfits)));
-            reads = (refl, refl);
+            reads = (refl, refl, refl);
             snapshots = refl;
             options = record { rest = refl; sink = refl };
             rest = rest_still env before from (get snapshot key) (Err status) (inr (status, refl));
@@ -500,7 +502,7 @@ module _ {E C FP F P : Type 0} {B : Boxed} {keys : InternalOrder C} {key_filters
             step = step;
             refused_by_mode = λ refused_by_mode. absurd (usable refused_by_mode);
             way = inr (sequence, reads, looks.way);
-            reads = (refl, same);
+            reads = (refl, same, refl);
             snapshots = refl;
             options = record {
               rest = ap (λ (v : OpenStoreValue C). record before.options { cmp = v.cmp }) same;

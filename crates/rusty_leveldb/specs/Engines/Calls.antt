@@ -34,10 +34,10 @@ use Rattle.leveldb_files.specs.Levels.Overlap.{named_range}
 use Rattle.rusty_leveldb.specs.Machines.Causes.{IsLongBatch}
 use Rattle.rusty_leveldb.specs.Machines.State.{Opening, Request, Snapshot, State, open_mode, open_store, write, get, get_snapshot, release_snapshot, flush, compact_range, close, abandon}
 use Rattle.rusty_leveldb.specs.Engines.Serves.{AreReadAs, done_or, found_or, given_engine, snapshot_of, snapshot_or}
-use Rattle.rusty_leveldb.specs.Engines.Engine.{IsClosed, IsBroken, IsClosedOrBroken, IsEngineSequence, RefusedByMode, AnswersAs, Answers, WriteExcused, SyncExcused, CloseExcused, CompactExcused, GetExcused, GetFails, SnapshotExcused, ReleaseExcused, WalkExcused, IsStoreName, IsOpening, HasOwnLock, formats_of, holds_lock, engine_options, tables_by}
+use Rattle.rusty_leveldb.specs.Engines.Engine.{IsClosed, IsBroken, IsClosedOrBroken, IsEngineSequence, RefusedByMode, AnswersAs, Answers, WriteExcused, SyncExcused, CloseExcused, CompactExcused, GetExcused, GetFails, SnapshotExcused, ReleaseExcused, WalkExcused, IsStoreName, IsOpening, HasOwnLock, Looks, formats_of, holds_lock, engine_options, owes_compaction, tables_by}
 use Rattle.rusty_leveldb.specs.Engines.Frame.{IsOwn, IsSyncing, MayTouchOrLog, SameBytes, Spares}
 use Rattle.rusty_leveldb.specs.Machines.Machine.{AllDurable, Closes, Gives, Keeps, Opens, Releases, Writes, risk_of}
-use Rattle.rusty_leveldb.specs.Engines.Room.{EngineMakesRoom, LogsRoom, KeepsOrCompacts, entries_added}
+use Rattle.rusty_leveldb.specs.Engines.Room.{EngineMakesRoom, LogsIfDue, LogsRoom, KeepsOrCompacts, entries_added}
 use Rattle.rusty_leveldb.specs.Engines.Rows.{FindsValue, FromEachState, FromStatesOf, IsAbandoned, NotClosed, NotCompacted, NotFlushed, NotOpened, NotUnlocked, NotWritten, RepresentsAt, Row, StaysAsItWas, WalksView}
 use Rattle.rusty_leveldb.specs.Openings.Unopened.{IsLockGivenBack, IsLockHeld, MakesLockAlone, NeverOpens, OpenExcused}
 use Rattle.rusty_leveldb.specs.Engines.Boxes.{EngineOf, InternalOrder}
@@ -87,11 +87,12 @@ module _ {E C FP F : Type 0} {B : Boxed} (env : Ghosts E F) where
 -- ---- what becomes of an engine
 
 module _ {E C FP F : Type 0} {B : Boxed} where
-  -- what a read leaves of an engine: its mode, and its store but for the version (of which a
-  -- look-up charges a file with a seek, and may choose it)
+  -- what a read leaves of an engine: its mode, its store but for the version (of which a look-up
+  -- charges a file with a seek, and may choose it), and when a compaction was last looked for
   abbrev pub IsReadOnly : EngineOf E C FP F B → EngineOf E C FP F B → Type 0
   IsReadOnly before after = (after.mode ≡ before.mode)
       × (after.store ≡ record before.store { current = after.store.current })
+      × (after.looked_at ≡ before.looked_at)
 
   -- its mode is as before, or the call broke it
   abbrev pub KeepsModeOrBreaks : EngineOf E C FP F B → EngineOf E C FP F B → Type 0
@@ -160,8 +161,8 @@ module _ {E C FP F P : Type 0} {B : Boxed} {keys : InternalOrder C} {key_filters
       FromEachState keys env (formats_of choices) (Some before) from (Some after) to row
 
   -- A write of these items fails so, and makes no call of the device for its batch: nothing is done;
-  -- or room in the memtable isn't made, and that is all; or it is made, and then memory is out, the
-  -- numbers are used up, or the memtable has too little room.
+  -- or room in the memtable isn't made, or a compaction that is due isn't done, and that is all; or
+  -- it is, and then memory is out, the numbers are used up, or the memtable has too little room.
   abbrev pub AppendsNothing : List Item → Status → EngineOf E C FP F B → E → Type 0
   AppendsNothing items status after to = (to ≡ from)
       ⊎ EngineMakesRoom env choices before from (Err status) after to
@@ -192,6 +193,15 @@ module _ {E C FP F P : Type 0} {B : Boxed} {keys : InternalOrder C} {key_filters
     -- where a level's score asks for it
     pub logs : OnOk result (IsMemtableFull before → LogsRoom before.store.set
         (record after.store.set { last_sequence = before.store.set.last_sequence }))
+    -- and where it wasn't, the compaction that was due, and else nothing
+    pub compacts : OnOk result ((IsMemtableFull before → ⊥)
+        → LogsIfDue (owes_compaction before) before.store.set
+        (record after.store.set { last_sequence = before.store.set.last_sequence }))
+    -- one is looked for once for each part by which the memtable grows, also where it fails then:
+    -- the write goes through when it is made again; or the write came before, and failed
+    pub looks : Looks before after ⊎ ((after.looked_at ≡ before.looked_at)
+        × IsErrAnd result (λ e. RefusedByMode before.mode e
+        ⊎ ((e.code ≡ InvalidArgument) × IsLongBatch items) ⊎ IsOutOfMemory e))
     -- Err leaves what memory shows, and the mode, or a broken store
     pub failed : OnErr result (KeepsModeOrBreaks before after × KeepsMemory before after)
     -- Ok or Err, and whatever the files are: what was in memory, and the batch if it was written,
