@@ -1,6 +1,6 @@
 //! Tables that pairs go to, one after another.
 // LevelDB: db/db_impl.cc, DBImpl::OpenCompactionOutputFile and FinishCompactionOutputFile
-ghost use Rattle.std.specs.Prelude.{◌≡◌, ◌<◌, ◌≤◌, ◌↔◌, ◌&&◌, ◌||◌, ◌∷◌, [], List, ℕ, None, IfSome, IsTrue, OnOk, is_some, length, true, vec_capacity, vec_len};
+ghost use Rattle.std.specs.Prelude.{◌≡◌, ◌<◌, ◌≤◌, ◌↔◌, ◌&&◌, ◌||◌, ◌∷◌, [], List, ℕ, None, false, IfSome, IsTrue, OnOk, is_some, length, true, vec_capacity, vec_len};
 ghost use Rattle.std.specs.declared.cmp.Ordering.TheVariants.{Less};
 ghost use Rattle.std.specs.Str.{bytes_eq};
 ghost use Rattle.leveldb_base.specs.KeyTypes.{user_part};
@@ -162,6 +162,7 @@ impl<E: Env, C: UserCmp + Copy + Drop, FP: FilterPolicy + Copy + Drop> Outputs<E
             → HaveOutputs choices E.Env store first next env.old self.old tables pairs
             → AddsPair choices E.Env store first tables pairs (key.now, value.now) next env.old
             result env.new self.new }
+        ensures ends { self.new.ends ≡ self.old.ends }
     {
         let Some(table) = &mut self.unfinished else {
             return Ok(());
@@ -209,6 +210,7 @@ impl<E: Env, C: UserCmp + Copy + Drop, FP: FilterPolicy + Copy + Drop> Outputs<E
             → AreCutBefore ((key.now, value.now) ∷ []) tables
             → OnOk result (HaveOutputs choices E.Env store.now first versions.new.set.next_file
             env.new self.new tables ((key.now, value.now) ∷ [])) }
+        ensures ends { OnOk result (self.new.ends ≡ false) }
         ensures changes { ChangesNewTables E.Env store.now versions.old.set.next_file
             versions.new.set.next_file env.old env.new }
         ensures parts { let choices = choices_of C.Cmp FP.FilterPolicy

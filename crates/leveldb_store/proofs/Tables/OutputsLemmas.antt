@@ -27,7 +27,7 @@ use Rattle.leveldb_table.specs.TableBuilder.{IsNewBuilder, KeepsChoices, TableBu
 use Rattle.leveldb_files.specs.Stores.Paths.{table_path}
 use Rattle.leveldb_files.specs.Stores.Store.{IsFirstKey, IsLastKey}
 use Rattle.leveldb_store.specs.Tables.BuildTable.{IsNotBuilt, IsTableBuilt, TableChoices, puts_all}
-use Rattle.leveldb_store.specs.Tables.Outputs.{AddsPair, AreCutBefore, AreFinished, AreNextNumbers, AreTables, ChangesNewTables, FinishesOpen, HaveOutputs, IsBeginFault, IsCutBefore, IsOpenAfter, IsOpenTable, IsUnfit, OutputsValue, PutsPair, is_due, is_due_in, numbers_of, pairs_after, tables_after, with_table}
+use Rattle.leveldb_store.specs.Tables.Outputs.{AddsPair, AreCutBefore, AreFinished, AreNextNumbers, AreTables, ChangesNewTables, FinishesOpen, HaveOutputs, IsBeginFault, IsCutBefore, IsOpenAfter, IsOpenTable, IsUnfit, OutputsValue, PutsPair, ends_after, is_due, is_due_in, numbers_of, pairs_after, tables_after, with_table}
 use Rattle.leveldb_store.specs.Tables.TableFile.{AddsToFile, ChangesOneFile, FailsToWrite, FinishesFile, IsAddFault, IsFinishFault, GrowsBy, IsMetadataOf, IsThere, LeavesPart, MayPut, StopsWriting}
 use Rattle.leveldb_store.specs.Tables.TableParts.{WritesParts}
 use Rattle.leveldb_store.specs.declared.table_file.TableFile.{TableFile}
@@ -225,6 +225,15 @@ pub pushed_is : {A T X : Type 0} {now more : List A} (same : List A) (result : R
     → IsOk result → now ≡ (if is_ok result then more else same) → now ≡ more
 pushed_is same (Ok x) ok is = is
 pushed_is same (Err x) never is = absurd (cc never)
+
+-- what holds holds of an Ok
+on_any : {T P : Type 0} (result : Result T Status) → P → OnOk result P
+on_any (Ok x) is = is
+on_any (Err status) is = tt
+
+on_weaker : {T P Q : Type 0} (result : Result T Status) → (P → Q) → OnOk result P → OnOk result Q
+on_weaker (Ok x) so is = so is
+on_weaker (Err status) so is = tt
 
 -- there is none
 pub none_of : {A : Type 0} (option : Option A) → false ≡ is_some option → option ≡ None
@@ -672,6 +681,7 @@ module _ {C FP : Type 0} {order : CmpGhosts C} {filters : FilterGhosts FP}
     unfit_not_put (Ok x) never unfit = absurd never
     unfit_not_put (Err status) code unfit = record {
       ok = tt;
+      ends = tt;
       changes = new-none env store first from;
       parts = parts_none choices env (pairs ++ pair ∷ []) from;
       cause = own_fails refl (inr (inr (inr (code, unfit)), refl));
@@ -679,12 +689,14 @@ module _ {C FP : Type 0} {order : CmpGhosts C} {filters : FilterGhosts FP}
 
     -- it was added to the open table
     pub added_is_put : {to : E} {new : OutputsValue E C FP F} (result : Result (Unit {0}) Status)
-        → is_due limit pair.0 old ≡ false
+        → is_due limit pair.0 old ≡ false → is_some old.unfinished ≡ true → new.ends ≡ old.ends
         → AddsPair choices env store first tables pairs pair next from result to new
         → PutsPair choices env store first tables pairs limit pair from old result next to new
-    added_is_put {to} {new} result due adds = record {
+    added_is_put {to} {new} result due some same adds = record {
       ok = subst (λ b. OnOk result (HaveOutputs choices env store first next to new
           (tables_after b tables pairs) (pairs_after b pairs pair))) (sym due) adds.ok;
+      ends = on_any result (same ∙ sym (ap (λ (b : Bool). b && old.ends) some)
+          ∙ sym (ap (λ (b : Bool). ends_after b old) due));
       changes = adds.changes;
       parts = adds.parts;
       cause = fails_so result refl
@@ -698,6 +710,7 @@ module _ {C FP : Type 0} {order : CmpGhosts C} {filters : FilterGhosts FP}
         → PutsPair choices env store first tables pairs limit pair from old (Err status) next to new
     unfinished_not_put {status = status} finishes = record {
       ok = tt;
+      ends = tt;
       changes = finishes.changes;
       parts = parts_so choices env pairs _ (Contains-append_left pairs (pair ∷ [])) finishes.parts;
       cause = fails_later refl (λ not. inl (some_not_built choices
@@ -740,10 +753,12 @@ module _ {C FP : Type 0} {order : CmpGhosts C} {filters : FilterGhosts FP}
         → next ≤ later → ChangesNewTables env store next later mid to
         → WritesParts choices env (pair ∷ []) mid to
         → FailsToWrite (IsBeginFault choices pair later) (env.failures mid) (env.failures to) result
+        → OnOk result (new.ends ≡ false)
         → PutsPair choices env store first tables pairs limit pair from old result later to new
-    begun_is_put {mid} {to} {new} {later} done result why finishes begins up changes parts cause =
-        record {
+    begun_is_put {mid} {to} {new} {later} done result why finishes begins up changes parts cause
+        anew = record {
           ok = by why;
+          ends = on_weaker result (λ is. is ∙ sym (none_ends why)) anew;
           changes = new-trans env store (new-rise env store up finishes.changes)
               (new-wider env store (next_range first next _ have.numbers) changes);
           parts = parts_then choices env _
@@ -754,6 +769,13 @@ module _ {C FP : Type 0} {order : CmpGhosts C} {filters : FilterGhosts FP}
               (Contains-append_right pairs (pair ∷ [])) not)) (λ used_up. inr (inl used_up))) cause;
         }
       where
+        none_ends : (is_due limit pair.0 old ≡ true) ⊎ (old.unfinished ≡ None)
+            → ends_after (is_due limit pair.0 old) old ≡ false
+        none_ends (inl due) = ap (λ (b : Bool). ends_after b old) due
+        none_ends (inr none) =
+            ap (λ (b : Bool). ends_after b old) (ap (is_due_in limit pair.0 old.ends) none)
+            ∙ ap (λ (o : Option (TableFile E C FP F)). is_some o && old.ends) none
+
         by : (is_due limit pair.0 old ≡ true) ⊎ (old.unfinished ≡ None)
             → IsPutAs later to new result (is_due limit pair.0 old)
         by (inl due) =

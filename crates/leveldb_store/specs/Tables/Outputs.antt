@@ -1,6 +1,6 @@
 -- Tables that are written one after another: which pairs each has, where one ends, what their
 -- writing leaves of the disk, and why it fails.
-use Rattle.std.specs.Prelude.{◌≡◌, ◌≢◌, ◌⊎◌, ◌≤◌, ◌<◌, ◌+◌, ◌-◌, ◌^◌, ◌&&◌, ◌||◌, ℕ, Bool, true, false, not, nat_lt, min, length, List, [], ◌∷◌, ◌++◌, map, Option, None, Some, Result, IfOk, IfSome, IsTrue, OnOk}
+use Rattle.std.specs.Prelude.{◌≡◌, ◌≢◌, ◌⊎◌, ◌≤◌, ◌<◌, ◌+◌, ◌-◌, ◌^◌, ◌&&◌, ◌||◌, ℕ, Bool, true, false, not, nat_lt, min, is_some, length, List, [], ◌∷◌, ◌++◌, map, Option, None, Some, Result, IfOk, IfSome, IsTrue, OnOk}
 use Rattle.std.specs.Str.{bytes_eq}
 use Rattle.std.specs.declared.cmp.Ordering.TheVariants.{Less}
 use Rattle.leveldb_base.specs.KeyTypes.{user_part}
@@ -47,6 +47,11 @@ is_due_in limit key ends (Some table) =
 -- the same of all outputs
 abbrev pub is_due : {E C FP F : Type 0} → ℕ → List ℕ → OutputsValue E C FP F → Bool
 is_due limit key outputs = is_due_in limit key outputs.ends outputs.unfinished
+
+-- whether the open table is to end, after a pair was put into it or into a new one
+abbrev pub ends_after : {E C FP F : Type 0} → Bool → OutputsValue E C FP F → Bool
+ends_after true outputs = false
+ends_after false outputs = is_some outputs.unfinished && outputs.ends
 
 -- ---- which pairs the tables have
 
@@ -198,6 +203,8 @@ module _ {C FP : Type 0} {order : CmpGhosts C} {filters : FilterGhosts FP}
     pub ok : let due = is_due limit pair.0 old in
         OnOk result (HaveOutputs choices env store first later to new
         (tables_after due tables pairs) (pairs_after due pairs pair))
+    -- a new table isn't to end before it was told to
+    pub ends : OnOk result (new.ends ≡ ends_after (is_due limit pair.0 old) old)
     pub changes : ChangesNewTables env store first later from to
     pub parts : WritesParts choices env (pairs ++ pair ∷ []) from to
     pub cause : FailsToWrite (IsPutFault choices pairs old.unfinished pair later)

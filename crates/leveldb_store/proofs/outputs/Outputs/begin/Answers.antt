@@ -24,6 +24,7 @@ returns-in_err-reserve g c =
     let choices = choices_of g.C.Cmp g.FP.FilterPolicy (key_cmp g.row.C g.C.UserCmp g.C.UserCmp-dict g.C.Cmp g.C.Cmp-dict) (key_policy g.row.FP g.FP.FilterPolicy g.FP.FilterPolicy-dict) (compressors g.dyn-2).codings c.args.options.now in
     record {
       begins = λ first tables are cut. IfOk-from_err exit.result _ exit.ensures.0;
+      ends = IfOk-from_err exit.result _ exit.ensures.0;
       changes = new-none g.E.Env c.args.store.now _ c.args.env.now;
       parts = parts_none choices g.E.Env ((c.args.key.now, c.args.value.now) ∷ []) c.args.env.now;
       cause = at_error_with (FailsToWrite _ _ _) exit.result exit.ensures.1 (λ status memory. own_fails refl (inl memory));
@@ -37,6 +38,7 @@ returns-in_err-smallest g c =
     let choices = choices_of g.C.Cmp g.FP.FilterPolicy (key_cmp g.row.C g.C.UserCmp g.C.UserCmp-dict g.C.Cmp g.C.Cmp-dict) (key_policy g.row.FP g.FP.FilterPolicy g.FP.FilterPolicy-dict) (compressors g.dyn-2).codings c.args.options.now in
     record {
       begins = λ first tables are cut. IfOk-from_err exit.result _ exit.ensures.0;
+      ends = IfOk-from_err exit.result _ exit.ensures.0;
       changes = new-none g.E.Env c.args.store.now _ c.args.env.now;
       parts = parts_none choices g.E.Env ((c.args.key.now, c.args.value.now) ∷ []) c.args.env.now;
       cause = at_error (FailsToWrite _ _ _) exit.result exit.ensures.1 (own_fails refl (inl c.in_err-smallest.ensures.memory));
@@ -51,6 +53,7 @@ returns-in_err-number g c =
     let choices = choices_of g.C.Cmp g.FP.FilterPolicy (key_cmp g.row.C g.C.UserCmp g.C.UserCmp-dict g.C.Cmp g.C.Cmp-dict) (key_policy g.row.FP g.FP.FilterPolicy g.FP.FilterPolicy-dict) (compressors g.dyn-2).codings c.args.options.now in
     record {
       begins = λ first tables are cut. IfOk-from_err exit.result _ exit.ensures.0;
+      ends = IfOk-from_err exit.result _ exit.ensures.0;
       changes = new-none g.E.Env c.args.store.now _ c.args.env.now;
       parts = parts_none choices g.E.Env ((c.args.key.now, c.args.value.now) ∷ []) c.args.env.now;
       cause = at_error (FailsToWrite _ _ _) exit.result exit.ensures.1
@@ -66,6 +69,7 @@ returns-in_err-path g c =
     let choices = choices_of g.C.Cmp g.FP.FilterPolicy (key_cmp g.row.C g.C.UserCmp g.C.UserCmp-dict g.C.Cmp g.C.Cmp-dict) (key_policy g.row.FP g.FP.FilterPolicy g.FP.FilterPolicy-dict) (compressors g.dyn-2).codings c.args.options.now in
     record {
       begins = λ first tables are cut. IfOk-from_err exit.result _ exit.ensures.0;
+      ends = IfOk-from_err exit.result _ exit.ensures.0;
       changes = new-none g.E.Env c.args.store.now _ c.args.env.now;
       parts = parts_none choices g.E.Env ((c.args.key.now, c.args.value.now) ∷ []) c.args.env.now;
       cause = at_error (FailsToWrite _ _ _) exit.result exit.ensures.1 (own_fails refl (inl c.in_err-path.ensures.cause));
@@ -83,6 +87,7 @@ returns-in_err-table g c =
     let choices = choices_of g.C.Cmp g.FP.FilterPolicy (key_cmp g.row.C g.C.UserCmp g.C.UserCmp-dict g.C.Cmp g.C.Cmp-dict) (key_policy g.row.FP g.FP.FilterPolicy g.FP.FilterPolicy-dict) (compressors g.dyn-2).codings c.args.options.now in
     record {
       begins = λ first tables are cut. IfOk-from_err exit.result _ exit.ensures.0;
+      ends = IfOk-from_err exit.result _ exit.ensures.0;
       changes = uncreated_changes g.E.Env c.args.store.now o.does o.locks o.cause.later (c.deref.ensures ∙ c.in_ok-path.ensures.ok) number_is (omega (arith, number_is, c.in_ok-number.ensures.fits)) (ap (λ v. v.set.next_file) given);
       parts = created_parts choices g.E.Env ((c.args.key.now, c.args.value.now) ∷ []) _ c.new_builder-core.ensures o.does;
       cause = at_error (FailsToWrite _ _ _) exit.result exit.ensures.1 (device_fails (λ memory. memory) (λ memory. memory) (cause_refused c.in_err-table.ensures.cause));
@@ -104,6 +109,7 @@ returns-in_err-add g c =
     let choices = choices_of g.C.Cmp g.FP.FilterPolicy (key_cmp g.row.C g.C.UserCmp g.C.UserCmp-dict g.C.Cmp g.C.Cmp-dict) (key_policy g.row.FP g.FP.FilterPolicy g.FP.FilterPolicy-dict) (compressors g.dyn-2).codings c.args.options.now in
     record {
       begins = λ first tables are cut. IfOk-from_err exit.result _ exit.ensures.0;
+      ends = IfOk-from_err exit.result _ exit.ensures.0;
       changes = none_changes g.E.Env c.args.store.now o.does o.locks o.cause o.file path_is number_is fits next c.in_err-add.ensures.err;
       parts = begun_left choices g.E.Env (c.args.key.now, c.args.value.now) new o.is.1 o.does o.file c.in_err-add.ensures.left (created_stops g.E.Env o.does o.file c.in_err-add.ensures.err).changes;
       cause = at_error (FailsToWrite _ _ _) exit.result exit.ensures.1 (none_cause g.E.Env c.args.store.now o.does o.locks o.cause o.file path_is number_is fits next

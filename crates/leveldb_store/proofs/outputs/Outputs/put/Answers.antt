@@ -28,7 +28,7 @@ pub returns-then-is_some : goal.returns-then-is_some
 returns-then-is_some g c = record {
   puts = λ first tables pairs have.
       let some = ap (λ v. is_some v.unfinished) (sym c.self.view_is) ∙ sym c.if-is_some.ensures in
-      added_is_put _ g.E.Env c.args.store.now have c.args.options.now.max_file_size (c.args.key.now, c.args.value.now) c.add.result (sym c.if-not-due.ensures)
+      added_is_put _ g.E.Env c.args.store.now have c.args.options.now.max_file_size (c.args.key.now, c.args.value.now) c.add.result (sym c.if-not-due.ensures) some c.add.ensures.ends
       (c.add.ensures.adds c.args.store.now first c.args.versions.now.set.next_file tables pairs some have);
   numbers = inl refl;
   version = refl;
@@ -56,7 +56,7 @@ returns g c = record {
         | else-not-due-via-else-not-due w ↦ inl (sym w.if-not-due.ensures)
       ])
       (c.in_ok-close.ensures.finishes c.args.store.now first c.args.versions.now.set.next_file tables pairs have)
-      (λ ready are cut. c.begin.ensures.begins first ready are cut) (may_rise c.begin.ensures.numbers) c.begin.ensures.changes c.begin.ensures.parts c.begin.ensures.cause;
+      (λ ready are cut. c.begin.ensures.begins first ready are cut) (may_rise c.begin.ensures.numbers) c.begin.ensures.changes c.begin.ensures.parts c.begin.ensures.cause c.begin.ensures.ends;
   numbers = c.begin.ensures.numbers;
   version = c.begin.ensures.version;
 }
