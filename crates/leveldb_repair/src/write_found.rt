@@ -71,6 +71,8 @@ impl MergeLevels for EachKey {
 struct NoCuts;
 
 impl Cuts for NoCuts {
+    ghost says = { λ it key told now. told ≡ false };
+
     fn should_stop_before(&mut self, _key: &[u8]) -> bool {
         false
     }

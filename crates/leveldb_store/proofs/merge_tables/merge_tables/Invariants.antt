@@ -1,8 +1,10 @@
-use Rattle.std.proofs.Common.{◌≡◌, ◌-◌, ◌^◌}
+use Rattle.std.proofs.Common.{◌≡◌, ◌-◌, ◌^◌, List}
+use Rattle.leveldb_base.specs.Types.{Pair}
 use Rattle.leveldb_base.specs.contracts.cmp.internal.InternalKeyCmpCmp.TheImpl.{ghosts as key_cmp}
 use Rattle.leveldb_env.specs.contracts.compressor.CompressorListCompressors.TheImpl.{ghosts as compressors}
 use Rattle.leveldb_env.specs.contracts.filter.internal.InternalFilterPolicyFilterPolicy.TheImpl.{ghosts as key_policy}
 use Rattle.leveldb_store.specs.Tables.BuildTable.{choices_of}
+use Rattle.leveldb_store.specs.Compactions.Cutting.{HasCut}
 use Rattle.leveldb_store.specs.Compactions.Merging.{MovesLeaveFiles, merge_of}
 use Rattle.leveldb_store.specs.Openings.Opening.{GivesNumbers, TakesBackNew}
 use Rattle.leveldb_store.proofs.Compactions.MergeLoopLemmas.{MergesSoFar}
@@ -19,6 +21,8 @@ invariant-loop g l =
       version : l.versions.current ≡ l.fn.versions.current;
       so_far : MovesLeaveFiles g.E.Env g.W.Walk
           → MergesSoFar merge g.E.Env g.W.Walk l.fn.versions.set.next_file (l.fn.env, l.fn.tables) l.fn.walk l.versions.set.next_file (l.env, l.tables) l.walk l.merging.passing l.merging.outputs;
+      cut_so_far : MovesLeaveFiles g.E.Env g.W.Walk → (read : List Pair)
+          × HasCut merge g.E.Env g.X.Cuts.says l.plan.options.now.max_file_size l.fn.cut l.fn.versions.set.next_file read l.versions.set.next_file l.env l.merging.passing l.merging.outputs l.cut;
     }
 
 abbrev pub decreases-loop : goal.decreases-loop
