@@ -1,3 +1,4 @@
+mod Headline
 mod Machines
 mod Engines
 mod Openings

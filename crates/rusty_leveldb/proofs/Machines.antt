@@ -1,6 +1,6 @@
 -- The store as a machine: its states, its requests and answers, its runs and their laws.
 pub mod MachineLemmas
-mod RunsLemmas
+pub mod RunsLemmas
 pub mod LawsLemmas
 pub mod ViewsLemmas
 pub mod WalkLawsLemmas

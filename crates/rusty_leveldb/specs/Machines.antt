@@ -4,3 +4,4 @@ pub mod Causes
 pub mod Machine
 pub mod Runs
 pub mod Laws
+pub mod Shown

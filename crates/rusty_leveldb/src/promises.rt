@@ -4,6 +4,7 @@ ghost use Rattle.rusty_leveldb.specs.Compactions.CompactionLaws.{AreViewsInTable
 ghost use Rattle.rusty_leveldb.specs.Walks.Iterator.{ScanGivesPairs};
 ghost use Rattle.rusty_leveldb.specs.Walks.IteratorLaws.{PrevUndoesNext};
 ghost use Rattle.rusty_leveldb.specs.Machines.Laws.{OneReading, NothingStands, CrashBetween, CrashInside, CrashSince, RefusalHasCause, StepFits, CrashFits, CrashInsideFits, LivesFit, DurableStays, SyncedStays, EachAnswerParts, HistoryIsAsked, HistoryIsPlaced, MoreIsAsked, LongItemMakesLongBatch, SyncedIsRead, ViewsStay, HeldStays, SnapshotIsRead, ForwardWalkGivesView, PrevUndoesAdvance, SyncedCanBeFound};
+ghost use Rattle.rusty_leveldb.specs.Machines.Shown.{StepsAreRows, LivesAreStories, RunsAreStories, RepairsAreShown};
 ghost use Rattle.leveldb_store.specs.Tables.BuildTable.{choices_of};
 ghost use Rattle.rusty_leveldb.specs.Openings.ReadAloneLaws.{ReadingKeepsStates, ReadsWhatOpens};
 ghost use Rattle.rusty_leveldb.specs.Repairs.RepairLaws.{AnotherRepairFindsTheSame, CrashSinceRepair, CrashesOfRepairsLoseNothing, OpensWhatRepairFound, RepairFindsWhatOpens, RepairsLoseNothing};
@@ -15,6 +16,17 @@ use leveldb_env::filter::{FilterPolicy, InternalFilterPolicy};
 use leveldb_env::options::Options;
 use leveldb_iter::walk::Walk;
 use leveldb_version::table_cache::{ReadTables, ReadsTables};
+
+/// The machine is maps. Each step of it is a row of the headline (`specs/Headline.antt`) between
+/// stores that its states show. So lives, with their crashes, are told by a story, from any state
+/// that shows a store, and from where no store is yet. A store that was repaired shows one of one
+/// batch, from which lives go on.
+pub fn machines_are_maps()
+    ensures steps { StepsAreRows }
+    ensures lives { LivesAreStories }
+    ensures runs { RunsAreStories }
+    ensures repaired { RepairsAreShown }
+{}
 
 /// What a store's files hold is determined, so a store can't choose what it recovers. And a disk
 /// on which no store is yet is one from which a store's life may begin.

@@ -120,7 +120,7 @@ synced_stays meaning setting old next last request answer lives before after is 
     leads in
     (more.0, more.1)
 
-new_is_state : (format : Format) → IsState (new_state format)
+pub new_is_state : (format : Format) → IsState (new_state format)
 new_is_state format = record {
   history = tt;
   reached = omega arith;

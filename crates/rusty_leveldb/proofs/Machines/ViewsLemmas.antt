@@ -17,7 +17,7 @@ use Rattle.rusty_leveldb.proofs.Machines.MachineLemmas.{Change, abandons, before
 
 -- ---- entries past a number aren't seen at it
 
-views_more : (entries more : List Entry) (s : ℕ) → AreAbove s more
+pub views_more : (entries more : List Entry) (s : ℕ) → AreAbove s more
     → SameView entries (entries ++ more) s
 views_more entries more s above key value = (to, back)
   where
