@@ -27,12 +27,12 @@ abbrev pub Map : Type 0
 Map = List ℕ → Option (List ℕ)
 
 -- the map after a change
-abbrev pub changed : Map → KeyChange → Map
-changed map change = λ key. if bytes_eq change.key key then change.value else map key
+abbrev pub with_change : Map → KeyChange → Map
+with_change map change = λ key. if bytes_eq change.key key then change.value else map key
 
 -- the map that batches make of the empty one, in order
 abbrev pub map_of : List Batch → Map
-map_of batches = fold (λ map batch. fold changed map batch) (λ key. None) batches
+map_of batches = fold (λ map batch. fold with_change map batch) (λ key. None) batches
 
 -- a key with its value
 abbrev pub Pair : Type 0
@@ -92,13 +92,13 @@ pub data Why : Type 0 where
   store_exists not_supported compressor_failed : Why
 
 -- what a call returns, or that its mode bars it; a walk: the pair at each new position, or none
-pub data Outcome : Type 0 where
-  done : Outcome
-  found : Option (List ℕ) → Outcome
-  walked : List (Result (Option Pair) Why) → Outcome
-  snapshot : ℕ → Outcome
-  failed : Why → Outcome
-  barred : StoreMode → Outcome
+pub data CallOutcome : Type 0 where
+  done : CallOutcome
+  found : Option (List ℕ) → CallOutcome
+  walked : List (Result (Option Pair) Why) → CallOutcome
+  snapshot : ℕ → CallOutcome
+  failed : Why → CallOutcome
+  barred : StoreMode → CallOutcome
 
 -- why a read may fail, and each move of a walk
 abbrev pub read_causes : List Why
@@ -118,7 +118,7 @@ causes close = out_of_memory ∷ device_failed ∷ []
 causes abandon = device_failed ∷ []
 
 -- a call that fails does so for one of its causes
-abbrev pub IsCaused : Call → Outcome → Type 0
+abbrev pub IsCaused : Call → CallOutcome → Type 0
 IsCaused call (failed why) = Contains (causes call) why
 IsCaused call outcome = Unit {0}
 
@@ -130,21 +130,21 @@ module _ (cmp : List ℕ → List ℕ → Ordering) (pairs : List Pair) where
   within i = if nat_lt i (length pairs) then Some i else None
 
   -- the position to which a move leads
-  abbrev pub moved : Option ℕ → WalkMove → Option ℕ
-  moved at seek_to_first = within 0
-  moved None advance = within 0
-  moved (Some i) advance = within (i + 1)
-  moved None prev = None
-  moved (Some i) prev = if nat_lt 0 i then Some (i - 1) else None
-  moved at (seek key) = position (λ pair. not (is_lt (cmp pair.0 key))) pairs
-  moved at reset = None
+  abbrev pub moved_to : Option ℕ → WalkMove → Option ℕ
+  moved_to at seek_to_first = within 0
+  moved_to None advance = within 0
+  moved_to (Some i) advance = within (i + 1)
+  moved_to None prev = None
+  moved_to (Some i) prev = if nat_lt 0 i then Some (i - 1) else None
+  moved_to at (seek key) = position (λ pair. not (is_lt (cmp pair.0 key))) pairs
+  moved_to at reset = None
 
   -- what moves return, one after another; one that fails leaves no position, and a reset never does
   abbrev pub AreMoves : Option ℕ → List WalkMove → List (Result (Option Pair) Why) → Type 0
   AreMoves at [] [] = Unit {0}
   AreMoves at (move ∷ moves) (Ok there ∷ results) =
-      (there ≡ option_and_then (slice_get pairs) (moved at move))
-      × AreMoves (moved at move) moves results
+      (there ≡ option_and_then (slice_get pairs) (moved_to at move))
+      × AreMoves (moved_to at move) moves results
   AreMoves at (reset ∷ moves) (Err why ∷ results) = ⊥
   AreMoves at (move ∷ moves) (Err why ∷ results) =
       Contains read_causes why × AreMoves None moves results
@@ -176,8 +176,8 @@ abbrev pub broken_with : UserStore → Option Batch → UserStore
 broken_with store batch = record store { pending = batch; mode = is_broken }
 
 -- nothing changes; or it is broken, out of memory or by a failing device alone
-abbrev pub MayBreak : UserStore → Option Batch → Why → UserStore → Type 0
-MayBreak old batch why new = (new ≡ old)
+abbrev pub MayLeaveBroken : UserStore → Option Batch → Why → UserStore → Type 0
+MayLeaveBroken old batch why new = (new ≡ old)
     ⊎ (Contains (causes flush) why × ((new ≡ broken_with old None) ⊎ (new ≡ broken_with old batch)))
 
 -- the store, closed, with no snapshot held
@@ -185,13 +185,13 @@ abbrev pub at_rest : UserStore → UserStore
 at_rest store = record store { held = []; given = []; mode = is_closed }
 
 -- a call returned, or a crash came
-pub data Event : Type 0 where
-  returned : Call → Outcome → Event
-  crash : Option Batch → Event
+pub data StoryEvent : Type 0 where
+  returned : Call → CallOutcome → StoryEvent
+  crash : Option Batch → StoryEvent
 
 module _ (cmp : List ℕ → List ℕ → Ordering) where
   -- what each call does that the mode allows, done or failed
-  abbrev pub AllowedRow : UserStore → Call → Outcome → UserStore → Type 0
+  abbrev pub AllowedRow : UserStore → Call → CallOutcome → UserStore → Type 0
   AllowedRow old open_store done new = (all : List Batch)
       × ((all ≡ old.batches) ⊎ (all ≡ old.batches ++ option_to_list old.pending))
       × (new ≡ fresh_store all old.durable is_open)
@@ -200,7 +200,7 @@ module _ (cmp : List ℕ → List ℕ → Ordering) where
     batches = old.batches ++ batch ∷ [];
     durable = if sync then length old.batches + 1 else old.durable;
   }
-  AllowedRow old (write batch sync) (failed why) new = MayBreak old (Some batch) why new
+  AllowedRow old (write batch sync) (failed why) new = MayLeaveBroken old (Some batch) why new
   AllowedRow old (get at key) (found value) new = (new ≡ old)
       × (shown : List Batch) × IsShown old at shown × (value ≡ map_of shown key)
   AllowedRow old (get at key) (failed why) new = new ≡ old
@@ -219,9 +219,9 @@ module _ (cmp : List ℕ → List ℕ → Ordering) where
   AllowedRow old (release_snapshot number) (failed why) new =
       ((count : ℕ) → Contains old.held (number, count) → ⊥) × (new ≡ old)
   AllowedRow old flush done new = new ≡ record old { durable = length old.batches }
-  AllowedRow old flush (failed why) new = MayBreak old None why new
+  AllowedRow old flush (failed why) new = MayLeaveBroken old None why new
   AllowedRow old compact_range done new = new ≡ old
-  AllowedRow old compact_range (failed why) new = MayBreak old None why new
+  AllowedRow old compact_range (failed why) new = MayLeaveBroken old None why new
   AllowedRow old close done new = new ≡ record (at_rest old) { durable = length old.batches }
   AllowedRow old close (failed why) new = new ≡ broken_with old None
   AllowedRow old abandon done new = new ≡ at_rest old
@@ -229,7 +229,7 @@ module _ (cmp : List ℕ → List ℕ → Ordering) where
   AllowedRow old call outcome new = ⊥
 
   -- the old store's mode is looked at first: a broken one isn't written, nor an open one opened
-  abbrev pub CallRow : StoreMode → UserStore → Call → Outcome → UserStore → Type 0
+  abbrev pub CallRow : StoreMode → UserStore → Call → CallOutcome → UserStore → Type 0
   CallRow is_closed old open_store outcome new =
       IsCaused open_store outcome × AllowedRow old open_store outcome new
   CallRow is_closed old abandon outcome new = (outcome ≡ done) × (new ≡ old)
@@ -242,7 +242,7 @@ module _ (cmp : List ℕ → List ℕ → Ordering) where
   CallRow mode old call outcome new = IsCaused call outcome × AllowedRow old call outcome new
 
   -- these calls that returned, and these crashes, lead from one store to another
-  abbrev pub IsStory : UserStore → List Event → UserStore → Type 0
+  abbrev pub IsStory : UserStore → List StoryEvent → UserStore → Type 0
   IsStory old [] new = new ≡ old
   IsStory old (returned call outcome ∷ events) new =
       (next : UserStore) × CallRow old.mode old call outcome next × IsStory next events new

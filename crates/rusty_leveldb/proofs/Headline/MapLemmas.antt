@@ -9,7 +9,7 @@ use Rattle.std.proofs.lemmas.List.Sums.{fold-append}
 use Rattle.leveldb_base.specs.History.{Item, Entry, History, placed, entries_of, greatest, AreUpTo, HasValueAt}
 use Rattle.leveldb_base.proofs.HistoryLemmas.{in_none, AreBelow, last_or, Said, said_of, of_said}
 use Rattle.leveldb_files.proofs.Histories.NumbersLemmas.{up_to, entries_more}
-use Rattle.rusty_leveldb.specs.Headline.{KeyChange, Batch, Map, changed, map_of}
+use Rattle.rusty_leveldb.specs.Headline.{KeyChange, Batch, Map, with_change, map_of}
 use Rattle.rusty_leveldb.specs.Machines.Shown.{changes_of, HasMap, AreShownAs}
 
 -- ---- entries one after another
@@ -62,7 +62,7 @@ module _ (es : List Entry) (q : ℕ) (item : Item) (map : Map) (low : AreBelow q
       to (inr was) = before.0 was.1
 
 one_shown : (es : List Entry) (q : ℕ) (item : Item) (map : Map) → AreBelow q es → HasMap es map
-    → HasMap (es ++ entry_at q item ∷ []) (changed map (change_by item))
+    → HasMap (es ++ entry_at q item ∷ []) (with_change map (change_by item))
 one_shown es q item map low has s up key value =
     by_key es q item map low has s up key value (bytes_eq item.key key) refl
 
@@ -75,12 +75,12 @@ below_next es q item low other c = ⊎_elim
 
 -- the entries of a batch after those that are shown
 pub batch_shown : (items : List Item) (es : List Entry) (q : ℕ) (map : Map) → AreBelow q es
-    → HasMap es map → HasMap (es ++ placed q items) (fold changed map (changes_of items))
+    → HasMap es map → HasMap (es ++ placed q items) (fold with_change map (changes_of items))
 batch_shown [] es q map low has = subst (λ x. HasMap x map) (sym (append-nil es)) has
 batch_shown (item ∷ items) es q map low has =
-    subst (λ x. HasMap x (fold changed map (changes_of (item ∷ items))))
+    subst (λ x. HasMap x (fold with_change map (changes_of (item ∷ items))))
     (append_assoc es (entry_at q item ∷ []) (placed (q + 1) items))
-    (batch_shown items (es ++ entry_at q item ∷ []) (q + 1) (changed map (change_by item))
+    (batch_shown items (es ++ entry_at q item ∷ []) (q + 1) (with_change map (change_by item))
     (below_next es q item low) (one_shown es q item map low has))
 
 -- ---- histories
@@ -124,9 +124,9 @@ module _ (history : History) (batches : List Batch) (shown : AreShownAs history 
         (map_of (batches ++ changes_of items ∷ []))
     last_shown =
         subst (λ x. HasMap (entries_of (history ++ placed (last + 1) items ∷ [])) x)
-        (sym (fold-append (λ map batch. fold changed map batch) (λ key. None) batches
+        (sym (fold-append (λ map batch. fold with_change map batch) (λ key. None) batches
         (changes_of items ∷ [])))
-        (subst (λ x. HasMap x (fold changed (map_of batches) (changes_of items)))
+        (subst (λ x. HasMap x (fold with_change (map_of batches) (changes_of items)))
         (sym (entries_more history (placed (last + 1) items)))
         (batch_shown items (entries_of history) (last + 1) (map_of batches)
         (λ other c. let u = up_to last (entries_of history) reached other c in omega arith)

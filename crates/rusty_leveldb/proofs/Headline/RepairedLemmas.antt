@@ -15,7 +15,7 @@ use Rattle.leveldb_base.proofs.OrderLemmas.{lt_itself, exact_total}
 use Rattle.leveldb_base.proofs.ConsistentLemmas.{each_has_view}
 use Rattle.leveldb_files.proofs.Histories.NumbersLemmas.{up_to_greatest}
 use Rattle.leveldb_files.specs.Stores.Format.{Format}
-use Rattle.rusty_leveldb.specs.Headline.{Batch, Map, changed, map_of, is_closed, fresh_store}
+use Rattle.rusty_leveldb.specs.Headline.{Batch, Map, with_change, map_of, is_closed, fresh_store}
 use Rattle.rusty_leveldb.specs.Machines.State.{IsState}
 use Rattle.rusty_leveldb.specs.Machines.Shown.{HasMap, AreShownAs, IsShownAs, RepairsAreShown}
 use Rattle.rusty_leveldb.specs.Repairs.Repair.{repaired_state}
@@ -90,7 +90,7 @@ module _ (cmp : List ℕ → List ℕ → Ordering) (order : IsExactOrder cmp) w
         inr (λ other c. none.0 other (in_rest pair (key, other) pairs c), none.1)
 
   set_all : (pairs : List Pair) (before : Map) → AreRising cmp pairs → (key value : List ℕ)
-      → (fold changed before (sets pairs) key ≡ Some value) ↔ Set pairs before key value
+      → (fold with_change before (sets pairs) key ≡ Some value) ↔ Set pairs before key value
   set_all [] before rising key value = (
     λ e. inr (λ other c. in_none (key, other) c, e),
     λ s. ⊎_elim (λ (c : Contains [] (key, value)). absurd (in_none (key, value) c))
@@ -98,7 +98,7 @@ module _ (cmp : List ℕ → List ℕ → Ordering) (order : IsExactOrder cmp) w
         none.1) s,
   )
   set_all (pair ∷ pairs) before rising key value =
-      let rest = set_all pairs (changed before (record { key = pair.0; value = Some pair.1 }))
+      let rest = set_all pairs (with_change before (record { key = pair.0; value = Some pair.1 }))
       rising.1 key value in (
         λ e. there pair pairs before rising key value (bytes_eq pair.0 key) refl (rest.0 e),
         λ s. rest.1 (back pair pairs before rising key value (bytes_eq pair.0 key) refl s),

@@ -7,11 +7,11 @@ use Rattle.leveldb_base.specs.History.{Item, Entry, History, entries_of, with_ba
 use Rattle.leveldb_base.proofs.HistoryLemmas.{in_none, in_cases}
 use Rattle.leveldb_files.proofs.Histories.NumbersLemmas.{up_to}
 use Rattle.rusty_leveldb.specs.Headline as headline
-use Rattle.rusty_leveldb.specs.Headline.{Batch, map_of, UserStore, StoreMode, is_open, is_broken, is_closed, fresh_store, at_rest, broken_with, Call, Outcome, barred, failed, IsCaused, AllowedRow, CallRow, causes}
+use Rattle.rusty_leveldb.specs.Headline.{Batch, map_of, UserStore, StoreMode, is_open, is_broken, is_closed, fresh_store, at_rest, broken_with, Call, CallOutcome, barred, failed, IsCaused, AllowedRow, CallRow, causes}
 use Rattle.rusty_leveldb.specs.Machines.State.{Mode, open_mode, broken, closed, Snapshot, Opening, State, IsState, Move, Request, open_store, write, get, walk, get_snapshot, release_snapshot, flush, compact_range, close, abandon, Refusal, Answer, done, found, walked, snapshot, refused}
 use Rattle.rusty_leveldb.specs.Machines.Causes.{Setting, Cause, out_of_memory, device_failed, IsCausedBy, IsClosedRefusal, IsBrokenRefusal}
 use Rattle.rusty_leveldb.specs.Machines.Machine.{MayGrow, Keeps, added_batch, Writes, AllDurable, Breaks, Gives, Releases, Closes, Abandons, Opens, StaysClosed, MayBreak, KeepsOrBreaks, LeavesRefused, Responds, Rejects, Step}
-use Rattle.rusty_leveldb.specs.Machines.Shown.{changes_of, number_of, move_of, call_of, IsCallOf, IsOutcomeOf, mode_of, AreShownAs, IsHeldAs, AreHeldAs, IsShownAs, StepsAreRows}
+use Rattle.rusty_leveldb.specs.Machines.Shown.{changes_of, snapshot_number, walk_move_of, call_of, IsCallOf, IsOutcomeOf, store_mode_of, AreShownAs, IsHeldAs, AreHeldAs, IsShownAs, StepsAreRows}
 use Rattle.rusty_leveldb.proofs.Machines.MachineLemmas.{none_pending}
 use Rattle.rusty_leveldb.proofs.Headline.MapLemmas.{more_shown, whole_shown}
 use Rattle.rusty_leveldb.proofs.Headline.ShownLemmas.{none_pending_shown, shown_with_none, nothing_pending, held_push, held_split, held_more, looked_up, reads_map}
@@ -164,7 +164,7 @@ module _ (old : State) (store : UserStore) (is : IsState old) (shown : IsShownAs
 
   may_break_row : (cause : Cause) (new : State)
       → Keeps old new ⊎ (MayBreak cause × Breaks old None new)
-      → Leads (headline.MayBreak store None (why_of cause)) new
+      → Leads (headline.MayLeaveBroken store None (why_of cause)) new
   may_break_row cause new (inl k) =
       let l = keeps_row new k in record { next = l.next; row = inl l.row; shown = l.shown }
   may_break_row cause new (inr b) =
@@ -173,23 +173,23 @@ module _ (old : State) (store : UserStore) (is : IsState old) (shown : IsShownAs
 
   may_break_with_row : (items : List Item) (cause : Cause) (new : State)
       → KeepsOrBreaks old cause (added_batch old items) new
-      → Leads (headline.MayBreak store (Some (changes_of items)) (why_of cause)) new
+      → Leads (headline.MayLeaveBroken store (Some (changes_of items)) (why_of cause)) new
   may_break_with_row items cause new (inl k) =
       let l = keeps_row new k in record { next = l.next; row = inl l.row; shown = l.shown }
   may_break_with_row items cause new (inr b) = ⊎_elim
       (λ (alone : Breaks old None new). let l = breaks_none_row new alone in
-      let row : headline.MayBreak store (Some (changes_of items)) (why_of cause) l.next =
+      let row : headline.MayLeaveBroken store (Some (changes_of items)) (why_of cause) l.next =
       inr (breaking cause b.0, inl l.row) in
       pack l.next row l.shown)
       (λ (with : Breaks old (Some (added_batch old items)) new).
       let l = breaks_with_row items new with in
-      let row : headline.MayBreak store (Some (changes_of items)) (why_of cause) l.next =
+      let row : headline.MayLeaveBroken store (Some (changes_of items)) (why_of cause) l.next =
       inr (breaking cause b.0, inr l.row) in
       pack l.next row l.shown) b.1
     where
-      pack : (next : UserStore) → headline.MayBreak store (Some (changes_of items)) (why_of cause) next
+      pack : (next : UserStore) → headline.MayLeaveBroken store (Some (changes_of items)) (why_of cause) next
           → IsShownAs new next
-          → Leads (headline.MayBreak store (Some (changes_of items)) (why_of cause)) new
+          → Leads (headline.MayLeaveBroken store (Some (changes_of items)) (why_of cause)) new
       pack next row are = record { next = next; row = row; shown = are }
 
   -- ---- snapshots
@@ -356,7 +356,7 @@ module _ (cmp : List ℕ → List ℕ → Ordering) (setting : Setting) (old new
     (order : old.format.order ≡ cmp) where
   -- a call that the mode allows
   pub record IsAllowed (call : Call) (answer : Answer) : Type 0 where
-    pub outcome : Outcome
+    pub outcome : CallOutcome
     pub next : UserStore
     pub told : IsOutcomeOf answer outcome
     pub caused_so : IsCaused call outcome
@@ -364,7 +364,7 @@ module _ (cmp : List ℕ → List ℕ → Ordering) (setting : Setting) (old new
     pub shown_so : IsShownAs new next
 
   -- one that is done
-  does : (call : Call) (answer : Answer) (outcome : Outcome) → IsOutcomeOf answer outcome
+  does : (call : Call) (answer : Answer) (outcome : CallOutcome) → IsOutcomeOf answer outcome
       → IsCaused call outcome → Leads (AllowedRow cmp store call outcome) new
       → IsAllowed call answer
   does call answer outcome told caused_so l = record {
@@ -414,7 +414,7 @@ module _ (cmp : List ℕ → List ℕ → Ordering) (setting : Setting) (old new
 
   get_row : (at : Option Snapshot) (key : List ℕ) (answer : Answer)
       → Responds setting old (get at key) answer new
-      → IsAllowed (headline.get (number_of at) key) answer
+      → IsAllowed (headline.get (snapshot_number at) key) answer
   get_row at key (refused refusal) s =
       fails (get at key) refusal s.cause s.comes (same_row old store is shown new s.leaves)
   get_row at key (found value) s =
@@ -441,7 +441,7 @@ module _ (cmp : List ℕ → List ℕ → Ordering) (setting : Setting) (old new
 
   walk_row : (at : Option Snapshot) (moves : List Move) (answer : Answer)
       → Responds setting old (walk at moves) answer new
-      → IsAllowed (headline.walk (number_of at) (map move_of moves)) answer
+      → IsAllowed (headline.walk (snapshot_number at) (map walk_move_of moves)) answer
   walk_row at moves (refused refusal) s =
       fails (walk at moves) refusal s.cause s.comes (same_row old store is shown new s.leaves)
   walk_row at moves (walked landings) s =
@@ -484,7 +484,7 @@ module _ (cmp : List ℕ → List ℕ → Ordering) (setting : Setting) (old new
 
   flush_leaves : (refusal : Refusal) (cause : Cause)
       → LeavesRefused setting old flush refusal cause new
-      → Leads (headline.MayBreak store None (why_of cause)) new
+      → Leads (headline.MayLeaveBroken store None (why_of cause)) new
   flush_leaves refusal device_failed l = may_break_row old store is shown device_failed new (inr (tt, l))
   flush_leaves refusal cause l = may_break_row old store is shown cause new l
 
@@ -536,7 +536,7 @@ module _ (cmp : List ℕ → List ℕ → Ordering) (setting : Setting) (old new
 
   pub record IsRowAt (mode : StoreMode) (request : Request) (answer : Answer) : Type 0 where
     pub call : Call
-    pub outcome : Outcome
+    pub outcome : CallOutcome
     pub next : UserStore
     pub asked : IsCallOf request answer call
     pub told : IsOutcomeOf answer outcome
@@ -566,7 +566,7 @@ module _ (cmp : List ℕ → List ℕ → Ordering) (setting : Setting) (old new
   release_asked one (snapshot other) = refl
 
   -- the release of a snapshot, in a store that is open or broken
-  module _ (mode : StoreMode) (as_allowed : (number : ℕ) (outcome : Outcome) (next : UserStore)
+  module _ (mode : StoreMode) (as_allowed : (number : ℕ) (outcome : CallOutcome) (next : UserStore)
       → IsCaused (headline.release_snapshot number) outcome
       → AllowedRow cmp store (headline.release_snapshot number) outcome next
       → CallRow cmp mode store (headline.release_snapshot number) outcome next) where
@@ -649,7 +649,7 @@ module _ (cmp : List ℕ → List ℕ → Ordering) (setting : Setting) (old new
   }
 
   row_at : (mode : Mode) (request : Request) (answer : Answer) → old.mode ≡ mode
-      → Step mode setting old request answer new → IsRowAt (mode_of mode) request answer
+      → Step mode setting old request answer new → IsRowAt (store_mode_of mode) request answer
   row_at closed (open_store opening) answer m s =
       let a = open_row opening answer s in
       row_of is_closed (open_store opening) answer headline.open_store refl a (a.caused_so, a.row)

@@ -8,7 +8,7 @@ use Rattle.leveldb_files.proofs.Histories.NumbersLemmas.{up_to, entries_more, pl
 use Rattle.rusty_leveldb.specs.Headline.{Batch, Map, map_of, UserStore, IsShown}
 use Rattle.rusty_leveldb.specs.Machines.State.{Snapshot, State, IsState}
 use Rattle.rusty_leveldb.specs.Machines.Machine.{IsSequenceOf}
-use Rattle.rusty_leveldb.specs.Machines.Shown.{changes_of, number_of, AreShownAs, IsHeldAs, AreHeldAs, IsShownAs}
+use Rattle.rusty_leveldb.specs.Machines.Shown.{changes_of, snapshot_number, AreShownAs, IsHeldAs, AreHeldAs, IsShownAs}
 use Rattle.rusty_leveldb.proofs.Machines.ViewsLemmas.{views_more}
 use Rattle.rusty_leveldb.proofs.Headline.MapLemmas.{whole_shown}
 
@@ -178,7 +178,7 @@ pub record ReadsMap (state : State) (store : UserStore) (at : Option ℕ) (s : �
 
 pub reads_map : (state : State) (store : UserStore) → IsState state → IsShownAs state store
     → (at : Option Snapshot) (s : ℕ) → IsSequenceOf state at s
-    → ReadsMap state store (number_of at) s
+    → ReadsMap state store (snapshot_number at) s
 reads_map state store is shown None s now_is = record {
   shown = store.batches;
   is = refl;

@@ -12,7 +12,7 @@ use Rattle.rusty_leveldb.specs.Machines.State.{open_mode, State, IsState, Reques
 use Rattle.rusty_leveldb.specs.Machines.Machine.{added_batch, Risk, risk_between, risk_of, Crashes}
 use Rattle.rusty_leveldb.specs.Machines.Runs.{Event, setting_of, RunsEvents, CrashBefore, last_moment, Ending, goes_on, crashes, Life, LifeLeads, Lives, new_state}
 use Rattle.rusty_leveldb.specs.Machines.Laws.{asked_by}
-use Rattle.rusty_leveldb.specs.Machines.Shown.{changes_of, mode_of, HasMap, AreShownAs, IsShownAs, written_by, IsCutBefore, TellsEvents, TellsLife, TellsLives, IsOpenedIn, AreOpenedIn, LivesAreStories, RunsAreStories}
+use Rattle.rusty_leveldb.specs.Machines.Shown.{changes_of, store_mode_of, HasMap, AreShownAs, IsShownAs, written_by, IsWriteCutShort, TellsEvents, TellsLife, TellsLives, IsOpenedIn, AreOpenedIn, LivesAreStories, RunsAreStories}
 use Rattle.rusty_leveldb.proofs.Machines.MachineLemmas.{Change, same, opens, stays, keeps, writes, covers, breaks, breaks_with, gives, releases, closes, abandons, change, none_pending, step_fits, crash_between_fits, crash_inside_fits}
 use Rattle.rusty_leveldb.proofs.Machines.RunsLemmas.{all_front}
 use Rattle.rusty_leveldb.proofs.Machines.LawsLemmas.{new_is_state}
@@ -119,7 +119,7 @@ module _ (old : State) (store : UserStore) (is : IsState old) (shown : IsShownAs
       (ap (λ b. b ++ changes_of items ∷ []) (sym (append-nil store.batches)
       ∙ ap (λ p. store.batches ++ option_to_list p)
       (sym (none_pending_shown old store shown (none_pending old is m)))))
-      (λ some. shown.mode ∙ ap mode_of m) c
+      (λ some. shown.mode ∙ ap store_mode_of m) c
 
   -- ---- inside a request
 
@@ -207,7 +207,7 @@ module _ (old : State) (store : UserStore) (is : IsState old) (shown : IsShownAs
 -- ---- stories
 
 module _ (cmp : List ℕ → List ℕ → Ordering) where
-  both_told : (front rest : List headline.Event) (a b c : UserStore) → IsStory cmp a front b
+  both_told : (front rest : List headline.StoryEvent) (a b c : UserStore) → IsStory cmp a front b
       → IsStory cmp b rest c → IsStory cmp a (front ++ rest) c
   both_told [] rest a b c first then = subst (λ s. IsStory cmp s rest c) first then
   both_told (returned call outcome ∷ front) rest a b c first then =
@@ -216,9 +216,9 @@ module _ (cmp : List ℕ → List ℕ → Ordering) where
       (first.0, first.1, both_told front rest first.0 b c first.2 then)
 
   -- what came of events that were told, up to this state
-  pub record IsTold (Tells : List headline.Event → Type 0) (store : UserStore) (last : State)
+  pub record IsTold (Tells : List headline.StoryEvent → Type 0) (store : UserStore) (last : State)
       : Type 0 where
-    pub told : List headline.Event
+    pub told : List headline.StoryEvent
     pub next : UserStore
     pub tells : Tells told
     pub story : IsStory cmp store told next
@@ -264,7 +264,7 @@ module _ (cmp : List ℕ → List ℕ → Ordering) where
     -- a crash before these events
     pub record CutIsTold (store : UserStore) (undone : List Event) (new : State) : Type 0 where
       pub cut : Option Batch
-      pub is_cut : IsCutBefore undone cut
+      pub is_cut : IsWriteCutShort undone cut
       pub told : CrashIsTold store cut new
       pub is : IsState new
 

@@ -8,11 +8,11 @@ use Rattle.std.proofs.lemmas.List.Elements.{All-nil, All-cons}
 use Rattle.leveldb_base.specs.History as history
 use Rattle.leveldb_base.specs.Types.{Pair, count_before, pair_at}
 use Rattle.rusty_leveldb.specs.Headline as headline
-use Rattle.rusty_leveldb.specs.Headline.{Map, IsListing, moved, AreMoves, Why, causes, read_causes}
+use Rattle.rusty_leveldb.specs.Headline.{Map, IsListing, moved_to, AreMoves, Why, causes, read_causes}
 use Rattle.rusty_leveldb.specs.Machines.State.{State, Snapshot, Move, seek_to_first, advance, prev, seek, reset, Request, open_store, write, get, walk, get_snapshot, release_snapshot, flush, compact_range, close, abandon, Refusal, Landing, stands_on, nowhere, move_refused}
 use Rattle.rusty_leveldb.specs.Machines.Causes.{Setting, Cause, out_of_memory, device_failed, lock_is_held, bad_operand, store_exists, used_up, too_large, compressor_failed, lacks_compressor, IsCausedBy, IsMoveCausedBy}
 use Rattle.rusty_leveldb.specs.Machines.Machine.{position_after, MoveLands, Moves}
-use Rattle.rusty_leveldb.specs.Machines.Shown.{call_of, move_of, HasCode, AreResultsOf}
+use Rattle.rusty_leveldb.specs.Machines.Shown.{call_of, walk_move_of, HasCode, AreResultsOf}
 
 -- ---- causes
 
@@ -183,7 +183,7 @@ module _ (cmp : List ℕ → List ℕ → Ordering) where
       by false n m e = refl
 
   same_position : (pairs : List Pair) (at : Option ℕ) (move : Move)
-      → position_after cmp pairs at move ≡ moved cmp pairs at (move_of move)
+      → position_after cmp pairs at move ≡ moved_to cmp pairs at (walk_move_of move)
   same_position pairs at seek_to_first = refl
   same_position pairs None advance = refl
   same_position pairs (Some n) advance = refl
@@ -200,17 +200,17 @@ module _ (cmp : List ℕ → List ℕ → Ordering) where
       (landings : List Landing) : Type 0 where
     pub results : List (Result (Option Pair) Why)
     pub told : AreResultsOf landings results
-    pub are : AreMoves cmp pairs at (map move_of moves) results
+    pub are : AreMoves cmp pairs at (map walk_move_of moves) results
 
   module _ (pairs : List Pair) where
     -- a move that is done
     done_move : (at : Option ℕ) (move : Move) (moves : List Move) (there : Option Pair)
         (results : List (Result (Option Pair) Why))
         → there ≡ pair_at pairs (position_after cmp pairs at move)
-        → AreMoves cmp pairs (position_after cmp pairs at move) (map move_of moves) results
-        → AreMoves cmp pairs at (map move_of (move ∷ moves)) (Ok there ∷ results)
+        → AreMoves cmp pairs (position_after cmp pairs at move) (map walk_move_of moves) results
+        → AreMoves cmp pairs at (map walk_move_of (move ∷ moves)) (Ok there ∷ results)
     done_move at move moves there results is rest =
-        subst (λ n. (there ≡ pair_at pairs n) × AreMoves cmp pairs n (map move_of moves) results)
+        subst (λ n. (there ≡ pair_at pairs n) × AreMoves cmp pairs n (map walk_move_of moves) results)
         (same_position pairs at move) (is, rest)
 
     -- one that fails
@@ -218,8 +218,8 @@ module _ (cmp : List ℕ → List ℕ → Ordering) where
         (at : Option ℕ) (move : Move) (moves : List Move) (refusal : Refusal) (cause : Cause)
         (results : List (Result (Option Pair) Why))
         → IsMoveCausedBy setting old (walk from all) move refusal cause
-        → AreMoves cmp pairs None (map move_of moves) results
-        → AreMoves cmp pairs at (map move_of (move ∷ moves)) (Err (why_of cause) ∷ results)
+        → AreMoves cmp pairs None (map walk_move_of moves) results
+        → AreMoves cmp pairs at (map walk_move_of (move ∷ moves)) (Err (why_of cause) ∷ results)
     failed_move setting old from all at seek_to_first moves refusal cause results c rest =
         (move_caused setting old from all seek_to_first refusal cause c, rest)
     failed_move setting old from all at advance moves refusal cause results c rest =
@@ -244,7 +244,7 @@ module _ (cmp : List ℕ → List ℕ → Ordering) where
             told = (refl, rest.told);
             are = done_move at move moves (Some pair) rest.results
                 (sym l.2 ∙ ap (pair_at pairs) next_is)
-                (subst (λ n. AreMoves cmp pairs n (map move_of moves) rest.results) next_is
+                (subst (λ n. AreMoves cmp pairs n (map walk_move_of moves) rest.results) next_is
                 rest.are);
           }
       lands at next move moves nowhere landings l rest =
@@ -255,7 +255,7 @@ module _ (cmp : List ℕ → List ℕ → Ordering) where
             told = (refl, rest.told);
             are = done_move at move moves None rest.results
                 (sym (ap (pair_at pairs) none_is))
-                (subst (λ n. AreMoves cmp pairs n (map move_of moves) rest.results)
+                (subst (λ n. AreMoves cmp pairs n (map walk_move_of moves) rest.results)
                 (l.2 ∙ sym none_is) rest.are);
           }
       lands at next move moves (move_refused refusal) landings l rest =
@@ -270,7 +270,7 @@ module _ (cmp : List ℕ → List ℕ → Ordering) where
               rest.told,
             );
             are = failed_move setting old from all at move moves refusal l.0.0 rest.results l.0.1
-                (subst (λ n. AreMoves cmp pairs n (map move_of moves) rest.results) l.1 rest.are);
+                (subst (λ n. AreMoves cmp pairs n (map walk_move_of moves) rest.results) l.1 rest.are);
           }
 
     pub walk_told : (old : State) (from : Option Snapshot) (all : List Move)

@@ -6,7 +6,7 @@ use Rattle.leveldb_base.specs.Cmp.{IsExactOrder}
 use Rattle.leveldb_base.specs.History.{Item, Entry, History, entries_of, with_batch, AreUpTo, HasValueAt, IsFoundSet}
 use Rattle.leveldb_files.specs.Stores.Format.{Format, Meaning}
 use Rattle.rusty_leveldb.specs.Headline as headline
-use Rattle.rusty_leveldb.specs.Headline.{Batch, Map, map_of, StoreMode, is_open, is_broken, is_closed, UserStore, fresh_store, WalkMove, Call, Why, Outcome, barred, failed, CallRow, returned, crash, IsStory}
+use Rattle.rusty_leveldb.specs.Headline.{Batch, Map, map_of, StoreMode, is_open, is_broken, is_closed, UserStore, fresh_store, WalkMove, Call, Why, CallOutcome, barred, failed, CallRow, returned, crash, IsStory}
 use Rattle.rusty_leveldb.specs.Machines.State.{Mode, open_mode, broken, closed, Snapshot, State, IsState, Move, seek_to_first, advance, prev, seek, reset, Request, open_store, write, get, walk, get_snapshot, release_snapshot, flush, compact_range, close, abandon, Refusal, Landing, stands_on, nowhere, move_refused, Answer, done, found, walked, snapshot, refused}
 use Rattle.rusty_leveldb.specs.Machines.Causes.{Setting, IsClosedRefusal, IsBrokenRefusal}
 use Rattle.rusty_leveldb.specs.Machines.Machine.{Step}
@@ -20,23 +20,23 @@ abbrev pub changes_of : List Item → Batch
 changes_of items = map (λ item. record { key = item.key; value = item.value }) items
 
 -- the number of a snapshot at which is read
-abbrev pub number_of : Option Snapshot → Option ℕ
-number_of at = option_map (λ one. one.number) at
+abbrev pub snapshot_number : Option Snapshot → Option ℕ
+snapshot_number at = option_map (λ one. one.number) at
 
 -- the move of the headline that a move is
-abbrev pub move_of : Move → WalkMove
-move_of seek_to_first = headline.seek_to_first
-move_of advance = headline.advance
-move_of prev = headline.prev
-move_of (seek key) = headline.seek key
-move_of reset = headline.reset
+abbrev pub walk_move_of : Move → WalkMove
+walk_move_of seek_to_first = headline.seek_to_first
+walk_move_of advance = headline.advance
+walk_move_of prev = headline.prev
+walk_move_of (seek key) = headline.seek key
+walk_move_of reset = headline.reset
 
 -- the call that a request is
 abbrev pub call_of : Request → Call
 call_of (open_store opening) = headline.open_store
 call_of (write items sync) = headline.write (changes_of items) sync
-call_of (get at key) = headline.get (number_of at) key
-call_of (walk at moves) = headline.walk (number_of at) (map move_of moves)
+call_of (get at key) = headline.get (snapshot_number at) key
+call_of (walk at moves) = headline.walk (snapshot_number at) (map walk_move_of moves)
 call_of get_snapshot = headline.get_snapshot
 call_of (release_snapshot one) = headline.release_snapshot one.number
 call_of flush = headline.flush
@@ -75,7 +75,7 @@ AreResultsOf (landing ∷ landings) (result ∷ results) =
 AreResultsOf _ _ = ⊥
 
 -- the outcome that an answer is
-abbrev pub IsOutcomeOf : Answer → Outcome → Type 0
+abbrev pub IsOutcomeOf : Answer → CallOutcome → Type 0
 IsOutcomeOf done outcome = outcome ≡ headline.done
 IsOutcomeOf (found looked) outcome = outcome ≡ headline.found looked
 IsOutcomeOf (walked landings) outcome = (results : List (Result (Option headline.Pair) Why))
@@ -101,10 +101,10 @@ pub record AreShownAs (history : History) (batches : List Batch) : Type 0 where
   pub maps : (n : ℕ) → HasMap (entries_of (take n history)) (map_of (take n batches))
 
 -- the mode of the headline that a mode is
-abbrev pub mode_of : Mode → StoreMode
-mode_of open_mode = is_open
-mode_of broken = is_broken
-mode_of closed = is_closed
+abbrev pub store_mode_of : Mode → StoreMode
+store_mode_of open_mode = is_open
+store_mode_of broken = is_broken
+store_mode_of closed = is_closed
 
 -- a snapshot is shown by its number and how many batches it shows: their map has the values at its
 -- sequence
@@ -132,12 +132,12 @@ pub record IsShownAs (state : State) (store : UserStore) : Type 0 where
   pub durable : store.durable ≤ state.durable
   pub held : AreHeldAs state.history store.batches state.held store.held
   pub given : store.given ≡ state.given
-  pub mode : store.mode ≡ mode_of state.mode
+  pub mode : store.mode ≡ store_mode_of state.mode
 
 -- ---- the story of a run
 
 -- each event of a run is told, in turn
-abbrev pub TellsEvents : List Event → List headline.Event → Type 0
+abbrev pub TellsEvents : List Event → List headline.StoryEvent → Type 0
 TellsEvents [] [] = Unit {0}
 TellsEvents (event ∷ events) (returned call outcome ∷ told) =
     IsCallOf event.request event.answer call
@@ -150,33 +150,33 @@ written_by (write items sync) = Some (changes_of items)
 written_by request = None
 
 -- a crash before the first of these events cut short its write, or none
-abbrev pub IsCutBefore : List Event → Option Batch → Type 0
-IsCutBefore [] cut = cut ≡ None
-IsCutBefore (event ∷ later) cut = (cut ≡ None) ⊎ (cut ≡ written_by event.request)
+abbrev pub IsWriteCutShort : List Event → Option Batch → Type 0
+IsWriteCutShort [] cut = cut ≡ None
+IsWriteCutShort (event ∷ later) cut = (cut ≡ None) ⊎ (cut ≡ written_by event.request)
 
 -- what was answered by the moment of a crash is told, and then the crash
-pub record TellsCrash (events : List Event) (moment : ℕ) (told : List headline.Event)
+pub record TellsCrash (events : List Event) (moment : ℕ) (told : List headline.StoryEvent)
     : Type 0 where
   pub done : List Event
   pub undone : List Event
   pub split : events ≡ done ++ undone
   pub by_then : All (λ event. event.moment ≤ moment) done
   pub not_yet : All (λ event. moment < event.moment) undone
-  pub before : List headline.Event
+  pub before : List headline.StoryEvent
   pub answers : TellsEvents done before
   pub cut : Option Batch
-  pub is_cut : IsCutBefore undone cut
+  pub is_cut : IsWriteCutShort undone cut
   pub told_is : told ≡ before ++ crash cut ∷ []
 
 -- a life is told to its end
-abbrev pub TellsLife : List Event → Ending → List headline.Event → Type 0
+abbrev pub TellsLife : List Event → Ending → List headline.StoryEvent → Type 0
 TellsLife events goes_on told = TellsEvents events told
 TellsLife events (crashes moment inside counted) told = TellsCrash events moment told
 
 -- one life after another
-abbrev pub TellsLives : List Life → List headline.Event → Type 0
+abbrev pub TellsLives : List Life → List headline.StoryEvent → Type 0
 TellsLives [] told = told ≡ []
-TellsLives (life ∷ lives) told = (front : List headline.Event) × (rest : List headline.Event)
+TellsLives (life ∷ lives) told = (front rest : List headline.StoryEvent)
     × (told ≡ front ++ rest) × TellsLife life.events life.ending front × TellsLives lives rest
 
 -- ---- the laws
@@ -194,7 +194,7 @@ AreOpenedIn cmp lives = All (λ life. All (λ event. IsOpenedIn cmp event.reques
 pub record IsRowOf (cmp : List ℕ → List ℕ → Ordering) (store : UserStore) (request : Request)
     (answer : Answer) (new : State) : Type 0 where
   pub call : Call
-  pub outcome : Outcome
+  pub outcome : CallOutcome
   pub next : UserStore
   pub asked : IsCallOf request answer call
   pub told : IsOutcomeOf answer outcome
@@ -214,7 +214,7 @@ LivesAreStories = (cmp : List ℕ → List ℕ → Ordering) (meaning : Meaning)
     (before after : ℕ) (old last : State) (store : UserStore)
     → IsState old → IsShownAs old store → old.format.order ≡ cmp → AreOpenedIn cmp lives
     → Lives meaning before old lives after last
-    → (events : List headline.Event) × (new : UserStore)
+    → (events : List headline.StoryEvent) × (new : UserStore)
     × TellsLives lives events × IsStory cmp store events new × IsShownAs last new
 
 -- and from where no store is yet they are told by a story from the store of no batch
@@ -222,7 +222,7 @@ abbrev pub RunsAreStories : Type 0
 RunsAreStories = (meaning : Meaning) (format : Format) (lives : List Life) (after : ℕ)
     (last : State) → AreOpenedIn format.order lives
     → Lives meaning 0 (new_state format) lives after last
-    → (events : List headline.Event) × (new : UserStore) × TellsLives lives events
+    → (events : List headline.StoryEvent) × (new : UserStore) × TellsLives lives events
     × IsStory format.order (fresh_store [] 0 is_closed) events new × IsShownAs last new
 
 -- a store that was repaired shows one batch, and lives may go on from it
