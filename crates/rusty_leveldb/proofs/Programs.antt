@@ -3,6 +3,7 @@ mod Turns
 pub mod TurnLemmas
 pub mod Playing
 pub mod Living
+mod Storied
 pub mod Lives
 pub mod Words
 pub mod Lines

@@ -33,6 +33,7 @@ use Rattle.rusty_leveldb.specs.Engines.Engine.{IsStoreName, IsOpening, opening_o
 use Rattle.rusty_leveldb.specs.Programs.Lives.{IsLife, with_name, ending_of, IsCrash, IsHonestCrash, IsNextDevice, IsReportOf, IsLifeOn, AreReports, AreReportsFromNone, IsLifeOf, AreLivesOf, AreOneRun, HasNoCrash, ReportsLives}
 use Rattle.leveldb_files.proofs.Histories.SafeLemmas.{front_honest}
 use Rattle.rusty_leveldb.proofs.Engines.ReadsLemmas.{nothing_stands}
+use Rattle.rusty_leveldb.proofs.Programs.Storied.{one_story}
 use Rattle.leveldb_env.specs.Options.{Boxed}
 use Rattle.rusty_leveldb.specs.Engines.Boxes.{InternalOrder, LifeOf}
 use Rattle.leveldb_files.specs.Stores.Format.{Meaning, Agrees, format_of}
@@ -234,14 +235,18 @@ module _ {C FP : Type 0} {B : Boxed} (cmp : CmpGhosts C) (filters : FilterGhosts
 
   pub all_reported : (lives : List (LifeOf C FP B)) (reports : Vec Report Global) → AreReportsFromNone ghosts cmp filters codings keys key_filters store IsCrash lives reports.items → ReportsLives ghosts cmp filters codings keys key_filters store lives (Ok reports)
   all_reported lives reports are = record {
+    story = λ none. one_story ghosts cmp filters codings keys key_filters store lives reports.items (one_run lives reports.items (kept none));
     reports = are;
     run = one_run lives reports.items;
-    kept = λ none. (are.0, record { first = are.1.first; empty = are.1.empty; fresh = are.1.fresh; reports_are = honest_lives are.1.first lives reports.items are.0 none are.1.reports_are });
+    kept = kept;
     error = tt;
   }
+    where
+      kept : All (λ life. life.pick.tails.items ≡ []) lives → AreReportsFromNone ghosts cmp filters codings keys key_filters store (IsHonestCrash store) lives reports.items
+      kept none = (are.0, record { first = are.1.first; empty = are.1.empty; fresh = are.1.fresh; reports_are = honest_lives are.1.first lives reports.items are.0 none are.1.reports_are })
 
   pub fails_for : (lives : List (LifeOf C FP B)) (e : Status) → IsOutOfMemory e ⊎ ((e.code ≡ InvalidArgument) × HasNoCrash ghosts cmp filters codings keys key_filters store lives) → ReportsLives ghosts cmp filters codings keys key_filters store lives (Err e)
-  fails_for lives e cause = record { reports = tt; run = tt; kept = tt; error = cause }
+  fails_for lives e cause = record { story = tt; reports = tt; run = tt; kept = tt; error = cause }
 
 -- the device that comes next, by whether the life has a crash
 pub next_crash : (Crash : RecordEnv → ℕ → Pick → RecordEnv → Type 0) (start at moment : ℕ) (was : Option ℕ) (pick : Pick) (to left end : RecordEnv) → was ≡ Some moment → at ≡ start → end ≡ left → Crash to (at + moment) pick left → IsNextDevice Crash start was pick to end

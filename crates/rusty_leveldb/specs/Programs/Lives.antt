@@ -2,6 +2,7 @@
 -- reports say of lives one after another, with crashes between them.
 use Rattle.std.specs.Prelude.{◌≡◌, ◌≤◌, ◌↔◌, ◌⊎◌, ◌+◌, ◌-◌, ◌%◌, ◌==◌, ◌&&◌, ℕ, Bool, false, All, List, [], ◌∷◌, ◌++◌, map, Option, Some, None, unwrap_or, Result, Ok, Err, OnOk, OnErr, IfOk, IfErr, IsTrue, Vec}
 use Rattle.std.specs.declared.alloc.Global.{Global}
+use Rattle.std.specs.declared.cmp.Ordering.{Ordering}
 use Rattle.leveldb_base.specs.declared.cmp.Cmp.{Ghosts as CmpGhosts}
 use Rattle.leveldb_base.specs.declared.error.Status.{Status}
 use Rattle.leveldb_base.specs.declared.error.StatusCode.TheVariants.{InvalidArgument}
@@ -21,6 +22,9 @@ use Rattle.rusty_leveldb.specs.declared.shell.crash_runs.Report.{Report}
 use Rattle.leveldb_files.specs.Stores.Format.{Format, Meaning, Agrees, format_of}
 use Rattle.rusty_leveldb.specs.Machines.State.{State, Opening, Request, open_store, abandon, Answer, done, refused}
 use Rattle.leveldb_files.specs.Histories.Holds.{IsHonest}
+use Rattle.rusty_leveldb.specs.Headline as headline
+use Rattle.rusty_leveldb.specs.Headline.{UserStore, fresh_store, is_closed, IsStory}
+use Rattle.rusty_leveldb.specs.Machines.Shown.{TellsLives}
 use Rattle.rusty_leveldb.specs.Machines.Runs as machine
 use Rattle.rusty_leveldb.specs.Machines.Runs.{Ending, goes_on, crashes, Lives, new_state}
 use Rattle.rusty_leveldb.specs.Engines.Serves.{Represents, Runs, recalls_nothing, IsConversation, refusal_of}
@@ -194,6 +198,19 @@ module _ {C FP F : Type 0} {B : Boxed} (env : Ghosts RecordEnv F) (cmp : CmpGhos
       × (failures : ℕ) × (last : State)
       × Lives meaning 0 (new_state format) of_machine failures last
 
+  -- The reports of all lives are one story of the headline, from the store of no batch on: it tells
+  -- what they report, up to the crash of each, and each crash. All lives have one order of keys, and
+  -- their options say of names and ids what they mean.
+  abbrev pub AreOneStory : List (LifeOf C FP B) → List Report → Type 0
+  AreOneStory lives reports = (order : List ℕ → List ℕ → Ordering) (named : Bool)
+      → (IsTrue named ↔ IsStoreName store)
+      → (meaning : Meaning)
+      → All (λ life. Agrees (format_of cmp filters codings life.options) meaning) lives
+      → All (λ life. cmp.cmp life.options.cmp ≡ order) lives
+      → (told : List machine.Life) × AreLivesOf named lives reports told
+      × (events : List headline.StoryEvent) × (last : UserStore)
+      × TellsLives told events × IsStory order (fresh_store [] 0 is_closed) events last
+
   -- a life that ran after those before it has a crash that can't be: its moment is still to come,
   -- or no crash leaves what its pick says
   pub record HasNoCrash (lives : List (LifeOf C FP B)) : Type 0 where
@@ -215,6 +232,9 @@ module _ {C FP F : Type 0} {B : Boxed} (env : Ghosts RecordEnv F) (cmp : CmpGhos
   -- what `lives` returns
   pub record ReportsLives (lives : List (LifeOf C FP B))
       (result : Result (Vec Report Global) Status) : Type 0 where
+    -- if each crash leaves the kept bytes alone, they are one story of the headline
+    pub story : IfOk result (λ reports. All (λ life. life.pick.tails.items ≡ []) lives
+        → AreOneStory lives reports.items)
     -- each report is of its life, on the device as the life before it left that, or as the crash of
     -- that life did
     pub reports : IfOk result (λ reports. AreReportsFromNone IsCrash lives reports.items)
