@@ -1,6 +1,6 @@
 //! Which files have two different pairs of one key: what the error of a repair says that can't
 //! choose between them.
-ghost use Rattle.std.specs.Prelude.{◌≤◌, IfOk, length};
+ghost use Rattle.std.specs.Prelude.{◌≡◌, ◌≤◌, IfOk, length};
 ghost use Rattle.leveldb_repair.specs.RepairSteps.{NamesClash};
 ghost use Rattle.leveldb_store.specs.Compactions.Merging.{LeavesFiles};
 
@@ -9,7 +9,7 @@ use super::restore::RepairPlan;
 use crate::found_logs::found_logs;
 use crate::found_tables::found_tables;
 use crate::found_walk::{FoundTable, FoundWalk, ReadFiles, ReadsFound};
-use crate::look_over::look_over;
+use crate::look_over::{LookedOver, look_over};
 use leveldb_base::cmp::{InternalKeyCmp, UserCmp};
 use leveldb_base::error::{Result, Status, StatusCode};
 use leveldb_base::types::{FileNum, LdbIterator};
@@ -28,15 +28,26 @@ pub(super) fn with_names<E: Env, C: UserCmp + Copy + Drop, FP: FilterPolicy + Co
 ) -> Status
     ensures { NamesClash E.Env env.old status result env.new }
 {
-    if status.code != StatusCode::Corruption {
-        return status;
+    match status.code {
+        StatusCode::Corruption => {
+            let text = text_of_clash(env, plan);
+            with_text(status, text)
+        }
+        _ => status,
     }
-    let Ok(Some(text)) = text_of_clash(env, plan) else {
-        return status;
-    };
-    Status {
-        code: StatusCode::Corruption,
-        err: Some(text),
+}
+
+// The status with this text, if there is one.
+fn with_text(status: Status, text: Result<Option<String>>) -> Status
+    requires { status.code ≡ StatusCode.Corruption }
+    ensures { result.code ≡ StatusCode.Corruption }
+{
+    match text {
+        Ok(Some(text)) => Status {
+            code: StatusCode::Corruption,
+            err: Some(text),
+        },
+        _ => status,
     }
 }
 
@@ -90,7 +101,7 @@ fn end_of_clash<E: Env, C: UserCmp + Copy + Drop, FP: FilterPolicy + Copy + Drop
     ensures within { IfOk result (λ end. end ≤ length files.now) }
 {
     let (mut fewer, mut enough) = (0, files.len());
-    'halves: while fewer + 1 < enough {
+    'halves: while enough - fewer > 1 {
         let middle = fewer + (enough - fewer) / 2;
         if have_clash(env, plan, &files[..middle])? {
             enough = middle;
@@ -111,7 +122,7 @@ fn start_of_clash<E: Env, C: UserCmp + Copy + Drop, FP: FilterPolicy + Copy + Dr
     ensures within { IfOk result (λ start. start ≤ length files.now) }
 {
     let (mut enough, mut fewer) = (0, files.len());
-    'halves: while enough + 1 < fewer {
+    'halves: while fewer - enough > 1 {
         let middle = enough + (fewer - enough) / 2;
         if have_clash(env, plan, &files[middle..])? {
             enough = middle;
@@ -154,7 +165,13 @@ fn merge_clashes<E: Env, C: UserCmp + Copy + Drop, K: ReadsFound<E, C>, M: LdbIt
     ensures { LeavesFiles E.Env env.old env.new }
 {
     let mut merge = MergeCore::new::<E, ReadFiles<'_, K>>(InternalKeyCmp(cmp), children);
-    match look_over(alloc, env, files, &mut merge) {
+    let looked = look_over(alloc, env, files, &mut merge);
+    tells_clash(looked)
+}
+
+// Whether a look over all pairs has failed since two clash, if it comes to an answer.
+fn tells_clash(looked: Result<LookedOver>) -> Result<bool> {
+    match looked {
         Ok(_) => Ok(false),
         Err(status) if status.code == StatusCode::Corruption => Ok(true),
         Err(status) => Err(status),

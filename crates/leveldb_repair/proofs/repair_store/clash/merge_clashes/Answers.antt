@@ -1,5 +1,5 @@
 use Rattle.leveldb_repair.proofs.RepairStoreLemmas.{leaves_kept}
 use Rattle.leveldb_repair.proofs.repair_store.clash.merge_clashes.Goals as goal
 
-pub returns-in-Ok : goal.returns-in-Ok
-returns-in-Ok g c = leaves_kept g.E.Env c.look_over.ensures.kept
+pub returns : goal.returns
+returns g c = leaves_kept g.E.Env c.look_over-looked.ensures.kept

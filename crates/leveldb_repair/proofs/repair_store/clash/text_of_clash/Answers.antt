@@ -27,6 +27,15 @@ returns-in_err-have_clash g c =
     c.start_of_clash.ensures.leaves)
     c.have_clash.ensures
 
+pub returns-then-not-branch : goal.returns-then-not-branch
+returns-then-not-branch g c =
+    let lists = c.list_files.ensures in
+    leaves_then g.E.Env
+    (leaves_then g.E.Env
+    (leaves_then g.E.Env (leaves_files g.E.Env lists.still lists.locks lists.cause) c.end_of_clash.ensures.leaves)
+    c.start_of_clash.ensures.leaves)
+    c.have_clash.ensures
+
 pub returns : goal.returns
 returns g c =
     let lists = c.list_files.ensures in
