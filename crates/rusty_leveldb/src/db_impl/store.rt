@@ -48,7 +48,7 @@ pub struct Store<'e, E: Env, S: Drop> {
 ///
 /// Contracts say so of an environment that shows what its disk holds and does what its trait says.
 /// Those in memory are proved to; the operating system's files are assumed to be such a disk
-/// (docs/guarantees.md, Premises).
+/// (docs/promise.md, What is assumed).
 ///
 /// | Code | Where a call may return it |
 /// |---|---|
