@@ -11,6 +11,8 @@ mod compactions;
 #[cfg(test)]
 mod compactions_asked;
 #[cfg(test)]
+mod compactions_due;
+#[cfg(test)]
 mod compactions_in_openings;
 #[cfg(test)]
 mod compactions_in_writes;
@@ -30,6 +32,8 @@ mod few_bytes;
 mod file_bounds;
 #[cfg(test)]
 mod iterators;
+#[cfg(test)]
+mod level_loads;
 #[cfg(test)]
 mod long;
 #[cfg(test)]

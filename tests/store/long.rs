@@ -1,7 +1,9 @@
 //! Trials that take minutes, of which short ones are in the modules themselves: ./test --long.
+use super::compactions_due::{crash_in_puts, fail_in_puts};
 use super::compactions_in_openings::{crash_in_openings, fail_in_openings};
 use super::compactions_of_many::try_seeds;
 use super::file_bounds::try_scripts;
+use super::level_loads::{Load, Order, fullest_of};
 use super::merged_inputs::{crash_in_merge, fail_in_merge};
 use super::merging::compare_merges;
 use super::open_tables::damage_each;
@@ -67,6 +69,20 @@ fn each_byte_of_a_table(rt: HostRuntime) -> Result<()> {
 }
 
 #[test]
+fn crashes_at_each_moment_of_a_put_that_compacts(rt: HostRuntime) -> Result<()> {
+    crash_in_puts(&rt, rt.alloc(), 1)
+}
+
+#[test]
+fn each_call_of_a_put_that_compacts_fails_once(rt: HostRuntime) -> Result<()> {
+    for done in [false, true] {
+        let (refused, through) = fail_in_puts(&rt, rt.alloc(), 1, done)?;
+        assert!(rt; refused > 3, "{done}: {refused} {through}");
+    }
+    Ok(())
+}
+
+#[test]
 fn crashes_at_each_moment_of_an_opening(rt: HostRuntime) -> Result<()> {
     crash_in_openings(&rt, rt.alloc(), 1)
 }
@@ -116,5 +132,90 @@ fn repairs_of_several_files(rt: HostRuntime) -> Result<()> {
     let count = shuffle(&rt, rt.alloc(), 400)?;
     assert!(rt; count > 300, "{count}");
     println!(rt; "{count} repairs were Ok")?;
+    Ok(())
+}
+
+/// Loads of some 100 MB each, with the memtable of 4 MiB.
+const LOADS: [Load; 9] = [
+    Load {
+        order: Order::Random,
+        puts: 1_000_000,
+        value: 100,
+        buffer: 4 << 20,
+    },
+    Load {
+        order: Order::Rising,
+        puts: 1_000_000,
+        value: 100,
+        buffer: 4 << 20,
+    },
+    Load {
+        order: Order::Falling,
+        puts: 1_000_000,
+        value: 100,
+        buffer: 4 << 20,
+    },
+    Load {
+        order: Order::Skewed,
+        puts: 1_000_000,
+        value: 100,
+        buffer: 4 << 20,
+    },
+    Load {
+        order: Order::Few,
+        puts: 1_000_000,
+        value: 100,
+        buffer: 4 << 20,
+    },
+    Load {
+        order: Order::Deleting,
+        puts: 1_500_000,
+        value: 100,
+        buffer: 4 << 20,
+    },
+    Load {
+        order: Order::Random,
+        puts: 3_000_000,
+        value: 10,
+        buffer: 4 << 20,
+    },
+    Load {
+        order: Order::Random,
+        puts: 2_000,
+        value: 100_000,
+        buffer: 4 << 20,
+    },
+    Load {
+        order: Order::Random,
+        puts: 1_000_000,
+        value: 100,
+        buffer: 1 << 16,
+    },
+];
+
+/// Levels stay within twice their limits, whatever is put.
+#[test]
+fn levels_of_loads(rt: HostRuntime) -> Result<()> {
+    for load in LOADS {
+        let most = fullest_of(rt.alloc(), load)?;
+        println!(rt; "{load:?}: {most:?}")?;
+        assert!(rt; most.0 <= 200, "{load:?}: {most:?}");
+    }
+    Ok(())
+}
+
+/// A memtable of 64 MiB becomes a table of as many bytes: level 1 has those of four once they are compacted, and is at its limit again before the
+/// next four are.
+#[test]
+fn levels_of_a_large_memtable(rt: HostRuntime) -> Result<()> {
+    let load = Load {
+        order: Order::Random,
+        puts: 3_000_000,
+        value: 100,
+        buffer: 64 << 20,
+    };
+    let most = fullest_of(rt.alloc(), load)?;
+    println!(rt; "{load:?}: {most:?}")?;
+    assert!(rt; most.0 <= 2600, "{most:?}");
     Ok(())
 }

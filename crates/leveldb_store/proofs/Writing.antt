@@ -10,3 +10,4 @@ mod BatchHistoryLemmas
 pub mod WriteBatchLemmas
 pub mod TableEntriesLemmas
 pub mod AddedTableLemmas
+pub mod DueLemmas

@@ -4,3 +4,4 @@ pub mod Switch
 pub mod WriteBatch
 pub mod Room
 pub mod RoomSteps
+pub mod Due

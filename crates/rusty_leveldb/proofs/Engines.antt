@@ -18,6 +18,7 @@ pub mod WritingLemmas
 pub mod RestLemmas
 pub mod SnapshotLemmas
 pub mod CallsLemmas
+mod NoneDueLemmas
 pub mod WriteCallLemmas
 pub mod UnknownLemmas
 pub mod RowLemmas

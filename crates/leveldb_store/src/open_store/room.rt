@@ -7,6 +7,7 @@ ghost use Rattle.leveldb_files.specs.Stores.Format.{Agrees, format_of};
 ghost use Rattle.leveldb_store.specs.Keeping.OpenStore.{IsUnbroken};
 ghost use Rattle.leveldb_store.specs.Keeping.OpenTables.{ClosesObsolete};
 ghost use Rattle.leveldb_store.specs.Writing.Room.{IsFull, MakesRoom, RemovesAtLast, TidiesUp, but_removal};
+ghost use Rattle.leveldb_store.specs.Writing.Due.{is_compaction_due, looked_after, looks_for_compaction};
 ghost use Rattle.leveldb_store.specs.Writing.RoomSteps.{MakesTablesOfMemory, CompactsMemtable};
 ghost use Rattle.leveldb_store.specs.Keeping.SoundCall.{BytesAreAppended, IsSoundCall, TimeGoesOn};
 ghost use Rattle.leveldb_store.specs.Writing.Switch.{RemovesObsolete};
@@ -22,12 +23,39 @@ use leveldb_env::log;
 use leveldb_env::options::Options;
 use leveldb_version::table_cache::TableCache;
 
+// The least that a part of a memtable is.
+const SMALLEST_PART: usize = 1 << 16;
+
 impl<E: Env, C: UserCmp + Copy> OpenStore<E, C> {
     /// Whether the memtable has entries, and they take this much memory or more.
     pub fn is_full(&self, limit: usize) -> bool
         ensures { IsTrue result ↔ IsFull limit self.now.mem }
     {
         self.mem.len() > 0 && limit <= self.mem.approx_mem_usage()
+    }
+
+    /// Looks for a compaction before a batch for which the memtable has room, where there is no
+    /// immutable one, and the memtable has grown by a part since one was last looked for, when it
+    /// took `looked_at` bytes, or is another one. Returns whether one is due: the score of a level
+    /// asks for it. A part is a quarter of `max_file_size`, and 64 KiB at least.
+    pub fn look_for_compaction(&self, max_file_size: usize, looked_at: &mut usize) -> bool
+        ensures due { result ≡ is_compaction_due max_file_size looked_at.old self.now }
+        ensures looked { looked_at.new ≡ looked_after max_file_size looked_at.old self.now }
+    {
+        if !self.looks_for_compaction(max_file_size, *looked_at) {
+            return false;
+        }
+        *looked_at = self.mem.approx_mem_usage();
+        self.versions.current().level_by_score().is_some()
+    }
+
+    // Whether a compaction is to be looked for.
+    fn looks_for_compaction(&self, max_file_size: usize, looked_at: usize) -> bool
+        ensures { result ≡ looks_for_compaction max_file_size looked_at self.now }
+    {
+        let part = (max_file_size / 4).max(SMALLEST_PART);
+        let memory = self.mem.approx_mem_usage();
+        !self.has_imm() && (memory < looked_at || part <= memory - looked_at)
     }
 }
 

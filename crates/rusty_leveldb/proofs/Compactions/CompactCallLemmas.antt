@@ -62,6 +62,7 @@ module _ {E C FP F P : Type 0} {B : Boxed} {keys : InternalOrder C} {key_filters
         by_tables = tt;
         clear = tt;
         snapshots = refl;
+        looks = refl;
         options = record { rest = refl; sink = refl };
         rest = rest_still env before from (compact_range low high) (Err status)
             (inr (status, refl));
@@ -117,6 +118,7 @@ module _ {E C FP F P : Type 0} {B : Boxed} {keys : InternalOrder C} {key_filters
           by_tables = tt;
           clear = tt;
           snapshots = refl;
+          looks = refl;
           options = record { rest = refl; sink = refl };
           rest = rest_still env before from (compact_range low high) (Err status)
               (inr (status, refl));
@@ -192,6 +194,7 @@ module _ {E C FP F P : Type 0} {B : Boxed} {keys : InternalOrder C} {key_filters
             by_tables = by_tables_then result it;
             clear = it.compacts.clear;
             snapshots = ap (λ (e : EngineOf E C FP F B). e.snapshots) it.rest;
+            looks = ap (λ (e : EngineOf E C FP F B). e.looked_at) it.rest;
             options = compact_tells env choices before from low high result after to it sink;
             rest = rest_kept env before from opened (compact_range low high) result
                 (λ kind is. is) (λ kind is. is) (λ held. refl) (λ syncs. syncs) after to

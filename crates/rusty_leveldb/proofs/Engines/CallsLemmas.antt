@@ -149,6 +149,9 @@ module _ {E C FP F P : Type 0} {B : Boxed} {keys : InternalOrder C} {key_filters
           written = tt;
           waits = tt;
           logs = tt;
+          compacts = tt;
+          looks = inr (refl, refl, inl why);
+          again = λ room. inr refl;
           failed = (inr refl, (refl, λ room. (refl, refl)));
           entries = kept_as_they_are env (formats (engine_options before)) before.store at;
           breaks = inr (inl refl);
@@ -172,6 +175,7 @@ module _ {E C FP F P : Type 0} {B : Boxed} {keys : InternalOrder C} {key_filters
           failed = (inr refl, inl (closed_or_broken_by before.mode status why));
           memory = refl;
           snapshots = refl;
+          looks = refl;
           options = record { rest = refl; sink = refl };
           rest = rest_still env before at flush (Err status) (inr (status, refl));
           time = λ modelled. omega arith;
@@ -198,6 +202,7 @@ module _ {E C FP F P : Type 0} {B : Boxed} {keys : InternalOrder C} {key_filters
               (closed_or_broken_by before.mode status why);
           memory = refl;
           snapshots = refl;
+          looks = refl;
           options = record { rest = refl; sink = refl };
           rest = rest_still env before at close (Err status) (inr (status, refl));
           time = λ modelled. omega arith;
@@ -299,6 +304,7 @@ module _ {E C FP F P : Type 0} {B : Boxed} {keys : InternalOrder C} {key_filters
           failed = flush_failed m follows result syncs;
           memory = sync_only env before from opened value mid result syncs;
           snapshots = refl;
+          looks = refl;
           options = sync_tells result m syncs;
           rest = rest_synced env before from opened value mid result syncs flush log_is_data tt
               (inl (λ held. refl)) m;
@@ -326,6 +332,7 @@ module _ {E C FP F P : Type 0} {B : Boxed} {keys : InternalOrder C} {key_filters
           failed = inl refl;
           memory = sync_only env before from opened value mid (Err status) syncs;
           snapshots = refl;
+          looks = refl;
           options = sync_tells (Err status) machine.broken syncs;
           rest = rest_synced env before from opened value mid (Err status) syncs close log_is_data tt
               (inr (status, refl)) machine.broken;
@@ -368,6 +375,7 @@ module _ {E C FP F P : Type 0} {B : Boxed} {keys : InternalOrder C} {key_filters
             failed = inl refl;
             memory = sync_only env before from opened value mid (Ok tt) syncs;
             snapshots = refl;
+            looks = refl;
             options = sync_tells (Ok tt) machine.broken syncs;
             rest = rest_given env before from opened value mid (Ok tt) syncs to lock lock_is
                 (Err status) does locks machine.broken;
@@ -400,6 +408,7 @@ module _ {E C FP F P : Type 0} {B : Boxed} {keys : InternalOrder C} {key_filters
             failed = tt;
             memory = sync_only env before from opened value mid (Ok tt) syncs;
             snapshots = refl;
+            looks = refl;
             options = sync_tells (Ok tt) machine.closed syncs;
             rest = rest_given env before from opened value mid (Ok tt) syncs to lock lock_is (Ok tt)
                 does locks machine.closed;
@@ -450,7 +459,7 @@ module _ {E C FP F P : Type 0} {B : Boxed} {keys : InternalOrder C} {key_filters
           step = step;
           refused_by_mode = λ refused_by_mode. (refl, refl, inl why);
           way = inl (refl, refl, inl why);
-          reads = (refl, refl);
+          reads = (refl, refl, refl);
           snapshots = refl;
           options = record { rest = refl; sink = refl };
           rest = rest_still env before from (get snapshot key) (Err status) (inr (status, refl));
@@ -471,7 +480,7 @@ module _ {E C FP F P : Type 0} {B : Boxed} {keys : InternalOrder C} {key_filters
             step = step;
             refused_by_mode = λ refused_by_mode. absurd (usable refused_by_mode);
             way = inl (refl, refl, inr (inl (code, misfits)));
-            reads = (refl, refl);
+            reads = (refl, refl, refl);
             snapshots = refl;
             options = record { rest = refl; sink = refl };
             rest = rest_still env before from (get snapshot key) (Err status) (inr (status, refl));
@@ -500,7 +509,7 @@ module _ {E C FP F P : Type 0} {B : Boxed} {keys : InternalOrder C} {key_filters
             step = step;
             refused_by_mode = λ refused_by_mode. absurd (usable refused_by_mode);
             way = inr (sequence, reads, looks.way);
-            reads = (refl, same);
+            reads = (refl, same, refl);
             snapshots = refl;
             options = record {
               rest = ap (λ (v : OpenStoreValue C). record before.options { cmp = v.cmp }) same;

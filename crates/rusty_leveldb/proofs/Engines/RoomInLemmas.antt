@@ -1,7 +1,8 @@
--- Room in the memtable of a store, and the compaction after it: both as one step, which may drop
--- entries that are shadowed at the smallest number that is held.
+-- Room in the memtable of a store, and the compaction after it, or the one that is due where there
+-- is room: as one step, which may drop entries that are shadowed at the smallest number that is
+-- held.
 use Rattle.std.specs.Prelude.{◌≢◌, IfErr, IsTrue, OnOk, Result}
-use Rattle.std.proofs.Common.{◌≡◌, ◌⊎◌, ⊎_elim, inl, inr, ◌∙◌, ℕ, List, [], Ok, Err, None, ap, refl, subst}
+use Rattle.std.proofs.Common.{◌≡◌, ◌⊎◌, ⊎_elim, inl, inr, ◌∙◌, ℕ, Bool, false, true, List, [], Ok, Err, None, ap, arith, refl, subst, sym}
 use Rattle.std.specs.declared.cmp.Ordering.{Ordering}
 use Rattle.leveldb_base.specs.Error.{IsOutOfMemory}
 use Rattle.leveldb_base.specs.declared.cmp.Cmp.{Ghosts as CmpGhosts}
@@ -15,6 +16,7 @@ use Rattle.leveldb_version.specs.Tables.TableCache.{TableOptions}
 use Rattle.leveldb_version.specs.declared.table_cache.TableCache.{TableCache}
 use Rattle.leveldb_store.proofs.Compactions.CompactedLemmas.{compacted_then, merge_between, nothing_compacted}
 use Rattle.leveldb_store.proofs.Compactions.CompactRangeLemmas.{memory_compacted}
+use Rattle.leveldb_store.proofs.Keeping.KeptEntriesLemmas.{entries_same}
 use Rattle.leveldb_store.specs.Tables.BuildTable.{TableChoices}
 use Rattle.leveldb_store.specs.Compactions.Compact.{CompactsTables, FailsToCompactRange, KeepsCompacted}
 use Rattle.leveldb_store.specs.Keeping.KeptEntries.{CompactsOnceAtMost, KeepsEntries}
@@ -25,29 +27,82 @@ use Rattle.leveldb_store.specs.Writing.Room.{FailsToMakeRoom, IsFull, MakesRoom}
 use Rattle.leveldb_store.specs.Writing.RoomSteps.{AddsNone, IsStepToRoom}
 use Rattle.leveldb_store.specs.Keeping.SoundCall.{IsSoundCall}
 use Rattle.rusty_leveldb.proofs.Engines.KeepsOrCompactsLemmas.{kept_in_tables, kept_or_compacted, kept_as_they_are}
-use Rattle.rusty_leveldb.specs.Engines.Room.{LogsRoom, StoreMakesRoom}
+use Rattle.rusty_leveldb.specs.Engines.Room.{LogsIfDue, LogsRoom, StoreMakesRoom}
 
 module _ {E F C FP D P : Type 0} (order : CmpGhosts (InternalKeyCmp C)) (env : Ghosts E F)
     (by : TableOptions C FP) (old : OpenStoreValue C) (from : E) (tables : TableCache E C FP F)
     {keys : CmpGhosts D} {filters : FilterGhosts P} (choices : TableChoices keys filters)
-    (format_is : choices.format ≡ by.format) (limit smallest : ℕ) where
+    (format_is : choices.format ≡ by.format) (limit smallest : ℕ) (due : Bool) where
   abbrev Makes : Result (Unit {0}) Status → OpenStoreValue C → E → TableCache E C FP F → Type 0
-  Makes = StoreMakesRoom order env by old from tables choices limit smallest
+  Makes = StoreMakesRoom order env by old from tables choices limit smallest due
 
   abbrev Keeps : Result (Unit {0}) Status → OpenStoreValue C → E → TableCache E C FP F → Type 0
   Keeps = KeepsCompacted order env by old from tables smallest
       (FailsToCompactRange order env by old from tables choices)
 
-  -- there is room
-  pub room_there : (IsFull limit old.mem → ⊥) → IsUnbroken old → Makes (Ok tt) old from tables
-  room_there room unbroken = record {
+  -- an Err leaves something to do
+  unfinished : (result : Result (Unit {0}) Status) (new : OpenStoreValue C)
+      → IfErr result (λ e. IsOutOfMemory e ⊎ IsTrue (needs_compaction new.current))
+      → IfErr result (λ e. IsFull limit new.mem ⊎ (new.imm ≢ None)
+      ⊎ IsTrue (needs_compaction new.current) ⊎ IsOutOfMemory e)
+  unfinished (Ok unit) new asks = tt
+  unfinished (Err status) new asks = ⊎_elim
+      (λ (memory : IsOutOfMemory status). inr (inr (inr memory)))
+      (λ (asks_still : IsTrue (needs_compaction new.current)). inr (inr (inl asks_still))) asks
+
+  -- nothing is said of a memtable that isn't full
+  of_full : (A : Type 0) → (IsFull limit old.mem → ⊥) → (result : Result (Unit {0}) Status)
+      → OnOk result (IsFull limit old.mem → A)
+  of_full A room (Ok unit) = λ full. absurd (room full)
+  of_full A room (Err status) = tt
+
+  -- there is room, and no compaction is due
+  pub room_there : (IsFull limit old.mem → ⊥) → due ≡ false → IsUnbroken old
+      → Makes (Ok tt) old from tables
+  room_there room none unbroken = record {
     keeps = nothing_compacted order env by old from tables smallest
         (FailsToCompactRange order env by old from tables choices) unbroken;
-    not_full = λ also. (refl, refl, tt);
+    not_full = λ also. record {
+      memory = refl;
+      none = λ is. (refl, refl, tt);
+      logs = subst (λ d. LogsIfDue d old.set old.set) (sym none) refl;
+    };
+    merges = λ also. record { later = omega arith; cause = tt };
     empties = λ full. absurd (room full);
     logs = λ full. absurd (room full);
     left = tt;
     entries = kept_as_they_are env by.format old from;
+  }
+
+  -- there is room, and the compaction that is due was done, or failed
+  pub due_compacted : (IsFull limit old.mem → ⊥) → due ≡ true → IsUnbroken old
+      → (result : Result (Unit {0}) Status) (new : OpenStoreValue C) (to : E)
+      (now : TableCache E C FP F)
+      → CompactsTables order env by old from tables choices smallest result new to now
+      → OnOk result (LogsByScore old.set new.set)
+      → IfErr result (λ e. IsOutOfMemory e ⊎ IsTrue (needs_compaction new.current))
+      → {cmp : List ℕ → List ℕ → Ordering} → cmp ≡ by.format.order
+      → CompactsOnceAtMost cmp env.models_disk old (env.observed from) new (env.observed to)
+      → Makes result new to now
+  due_compacted room is unbroken result new to now compacts by_score asks same once = record {
+    keeps =
+        let first = nothing_compacted order env by old from tables smallest
+        (FailsToCompactRange order env by old from tables choices) unbroken in
+        compacted_then first result new to now (λ status unmerged. inl unmerged) compacts.keeps;
+    not_full = λ also. record {
+      memory = compacts.memory;
+      none = λ never. absurd (let no : true ≡ false = sym is ∙ never in cc);
+      logs = subst (λ d. OnOk result (LogsIfDue d old.set new.set)) (sym is) by_score;
+    };
+    merges = λ also. compacts.keeps.cause;
+    empties = of_full ((new.mem.entries ≡ []) × (new.mem.places ≡ 0) × (new.imm ≡ None)) room result;
+    logs = of_full (LogsRoom old.set new.set) room result;
+    left = unfinished result new asks;
+    entries = kept_or_compacted env by.format old from old from refl
+        (entries_same env by.format old from) old refl new to compacts.memory
+        compacts.keeps.rest.last
+        (subst (λ c. CompactsOnceAtMost c env.models_disk old (env.observed from) new
+        (env.observed to)) same once);
   }
 
   module _ {cmp : List ℕ → List ℕ → Ordering} (same : cmp ≡ by.format.order)
@@ -78,7 +133,8 @@ module _ {E F C FP D P : Type 0} (order : CmpGhosts (InternalKeyCmp C)) (env : G
       → KeepsEntries env choices.format old from new to → Makes (Err status) new to now
   room_not_made same status new to now made sound closes kept = record {
     keeps = room_keeps same (Err status) new to now made sound closes tt;
-    not_full = made.not_full;
+    not_full = λ room. absurd (made.not_full room).2;
+    merges = λ room. absurd (made.not_full room).2;
     empties = tt;
     logs = tt;
     left = ⊎_elim (λ (full : IsFull limit new.mem). inl full)
@@ -112,9 +168,10 @@ module _ {E F C FP D P : Type 0} (order : CmpGhosts (InternalKeyCmp C)) (env : G
             compacted_then first result new to now
             (λ status unmade. inl (merge_between first choices new status unmade)) compacts.keeps;
         not_full = λ room. absurd (room full);
+        merges = λ room. absurd (room full);
         empties = empties result;
         logs = logs result by_score;
-        left = unfinished result asks;
+        left = unfinished result new asks;
         entries = kept_or_compacted env by.format old from mid at made.rest.store
             (subst (λ f. KeepsEntries env f old from mid at) format_is kept) charged only new to
             compacts.memory compacts.keeps.rest.last
@@ -130,15 +187,6 @@ module _ {E F C FP D P : Type 0} (order : CmpGhosts (InternalKeyCmp C)) (env : G
         by_score = by_score;
       }
       logs (Err status) by_score = tt
-
-      unfinished : (result : Result (Unit {0}) Status)
-          → IfErr result (λ e. IsOutOfMemory e ⊎ IsTrue (needs_compaction new.current))
-          → IfErr result (λ e. IsFull limit new.mem ⊎ (new.imm ≢ None)
-          ⊎ IsTrue (needs_compaction new.current) ⊎ IsOutOfMemory e)
-      unfinished (Ok unit) asks = tt
-      unfinished (Err status) asks = ⊎_elim
-          (λ (memory : IsOutOfMemory status). inr (inr (inr memory)))
-          (λ (asks_still : IsTrue (needs_compaction new.current)). inr (inr (inl asks_still))) asks
 
       empties : (result : Result (Unit {0}) Status)
           → OnOk result (IsFull limit old.mem → (new.mem.entries ≡ [])

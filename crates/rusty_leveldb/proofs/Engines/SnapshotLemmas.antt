@@ -303,7 +303,7 @@ module _ {E C FP F P : Type 0} {B : Boxed} {keys : InternalOrder C} {key_filters
           step = given_step at;
           still = refl;
           refused_by_mode = λ refused_by_mode. absurd (usable refused_by_mode);
-          reads = (refl, refl);
+          reads = (refl, refl, refl);
           snapshots = gives;
           options = record { rest = refl; sink = refl };
           rest = rest_held get_snapshot tt (Ok one) snapshots at;
@@ -324,7 +324,7 @@ module _ {E C FP F P : Type 0} {B : Boxed} {keys : InternalOrder C} {key_filters
         step = step;
         still = refl;
         refused_by_mode = λ refused_by_mode. (refl, refl, inl out);
-        reads = (refl, refl);
+        reads = (refl, refl, refl);
         snapshots = refl;
         options = record { rest = refl; sink = refl };
         rest = rest_still env before at get_snapshot (Err status) (inr (status, refl));
@@ -355,7 +355,7 @@ module _ {E C FP F P : Type 0} {B : Boxed} {keys : InternalOrder C} {key_filters
         step = step;
         still = refl;
         refused_by_mode = λ refused_by_mode. absurd (usable refused_by_mode);
-        reads = (refl, refl);
+        reads = (refl, refl, refl);
         snapshots = refl;
         options = record { rest = refl; sink = refl };
         rest = rest_still env before at get_snapshot (Err status) (inr (status, refl));
@@ -378,7 +378,7 @@ module _ {E C FP F P : Type 0} {B : Boxed} {keys : InternalOrder C} {key_filters
         step = step;
         still = refl;
         refused_by_mode = λ refused_by_mode. (refl, refl, inl out);
-        reads = (refl, refl);
+        reads = (refl, refl, refl);
         snapshots = refl;
         options = record { rest = refl; sink = refl };
         rest = rest_still env before at request (Err status) (inr (status, refl));
@@ -407,7 +407,7 @@ module _ {E C FP F P : Type 0} {B : Boxed} {keys : InternalOrder C} {key_filters
         step = step;
         still = refl;
         refused_by_mode = λ refused_by_mode. absurd (usable refused_by_mode);
-        reads = (refl, refl);
+        reads = (refl, refl, refl);
         snapshots = refl;
         options = record { rest = refl; sink = refl };
         rest = rest_still env before at request (Err status) (inr (status, refl));
@@ -488,7 +488,7 @@ module _ {E C FP F P : Type 0} {B : Boxed} {keys : InternalOrder C} {key_filters
           step = left_step at;
           still = refl;
           refused_by_mode = λ refused_by_mode. absurd (usable refused_by_mode);
-          reads = (refl, refl);
+          reads = (refl, refl, refl);
           snapshots = releases;
           options = record { rest = refl; sink = refl };
           rest = rest_held (release_snapshot (snapshot_of one)) tt (Ok tt) snapshots at;

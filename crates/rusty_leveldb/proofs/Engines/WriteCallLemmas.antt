@@ -2,6 +2,7 @@
 -- fails.
 use Rattle.std.specs.Prelude.{IfErr, OnErr, OnOk, Result}
 use Rattle.std.proofs.Common.{◌≡◌, ◌<◌, ◌≤◌, ◌+◌, ◌⊎◌, ◌∙◌, ⊎_elim, inl, inr, ℕ, zero, suc, Bool, true, false, List, [], ◌∷◌, ◌++◌, length, refl, sym, ap, subst, arith, Some, Ok, Err}
+use Rattle.std.proofs.lemmas.Bool.{cases_Bool}
 use Rattle.leveldb_base.specs.Error.{IsOutOfMemory}
 use Rattle.leveldb_base.specs.History.{Entry, Item, placed}
 use Rattle.leveldb_base.specs.declared.error.Status.{Status}
@@ -14,17 +15,17 @@ use Rattle.leveldb_mem.specs.WriteBatch.{Batch, IsTooLong, batch_bytes, batch_of
 use Rattle.leveldb_store.specs.Tables.BuildTable.{TableChoices}
 use Rattle.leveldb_files.specs.Stores.Format.{Format}
 use Rattle.leveldb_store.specs.Keeping.OpenStore.{IsUnbroken, OpenStoreValue}
-use Rattle.leveldb_store.specs.Compactions.Compact.{FailsToCompactRange}
+use Rattle.leveldb_store.specs.Compactions.Compact.{AreInputsLost, FailsToCompactRange, FailsToMerge}
 use Rattle.leveldb_store.specs.Writing.Room.{FailsFor, HasFailed, IsFull, ChangesLoggerOnly}
 use Rattle.leveldb_store.specs.Keeping.Written.{IsWritten}
 use Rattle.leveldb_store.specs.Keeping.SoundCall.{IsSoundCall, any_meaning}
 use Rattle.leveldb_store.specs.Writing.WriteBatch.{FailsToWriteBatch, IsNotBegun, WritesBatch, next_batch}
 use Rattle.rusty_leveldb.specs.Engines.Boxes.{EngineOf, InternalOrder}
 use Rattle.rusty_leveldb.specs.Engines.EngineValue.{FollowsStore}
-use Rattle.rusty_leveldb.specs.Engines.Room.{EngineMakesRoom, LogsRoom, KeepsOrCompacts, entries_added}
+use Rattle.rusty_leveldb.specs.Engines.Room.{EngineMakesRoom, LogsIfDue, LogsRoom, KeepsOrCompacts, entries_added}
 use Rattle.rusty_leveldb.specs.Engines.Calls.{AppendsNothing, EngineWrites, IsMemtableFull, KeepsMemory, KeepsModeOrBreaks, MakesNoImm, WritesIntoRoom}
 use Rattle.rusty_leveldb.specs.Machines.Causes.{AreUsedUp, IsLongBatch}
-use Rattle.rusty_leveldb.specs.Engines.Engine.{empty_memtable, Answers, IsBroken, WriteExcused, engine_options, formats_of, tables_by}
+use Rattle.rusty_leveldb.specs.Engines.Engine.{empty_memtable, Answers, IsBroken, WriteExcused, engine_options, formats_of, has_compaction_due, tables_by}
 use Rattle.rusty_leveldb.specs.Engines.Serves.{done_or}
 use Rattle.rusty_leveldb.specs.Machines.State as machine
 use Rattle.rusty_leveldb.specs.Machines.State.{write}
@@ -32,6 +33,7 @@ use Rattle.rusty_leveldb.proofs.Engines.Batching.{IsUnmade, not_written}
 use Rattle.rusty_leveldb.proofs.Engines.EngineLemmas.{follows_broken, follows_open}
 use Rattle.rusty_leveldb.proofs.Engines.CallsLemmas.{open_is_neither}
 use Rattle.rusty_leveldb.proofs.Engines.KeepsOrCompactsLemmas.{kept_beside_batch, kept_as_they_are}
+use Rattle.rusty_leveldb.proofs.Engines.NoneDueLemmas.{none_due_again}
 use Rattle.rusty_leveldb.proofs.Engines.RestLemmas.{rest_roomless, rest_still, rest_written}
 use Rattle.rusty_leveldb.proofs.Engines.RowLemmas.{write_row}
 use Rattle.rusty_leveldb.proofs.Engines.SyncLemmas.{log_is_there}
@@ -109,6 +111,14 @@ module _ {E C FP F P : Type 0} {B : Boxed} {keys : InternalOrder C} {key_filters
         written = tt;
         waits = tt;
         logs = tt;
+        compacts = tt;
+        looks = inr (
+          refl,
+          refl,
+          ⊎_elim (λ (memory : IsOutOfMemory status). inr (inr memory))
+              (λ (past : (status.code ≡ InvalidArgument) × IsLongBatch items). inr (inl past)) why,
+        );
+        again = λ room. inr refl;
         failed = (inr refl, (refl, λ room. (refl, refl)));
         entries = kept_as_they_are env (formats (engine_options before)) before.store from;
         breaks = inr (inl refl);
@@ -149,45 +159,66 @@ module _ {E C FP F P : Type 0} {B : Boxed} {keys : InternalOrder C} {key_filters
           written = tt;
           waits = tt;
           logs = tt;
-          failed = (
-            becomes after made.mode,
-            (
-              made.makes.keeps.rest.last,
-              λ room.
-                  let same = (made.makes.not_full room).0 in (
-                    ap (λ (v : OpenStoreValue C). v.mem.entries) same,
-                    ap (λ (v : OpenStoreValue C). v.imm) same,
-                  ),
-            ),
-          );
+          compacts = tt;
+          looks = inl made.looks;
+          again = λ room. inl (none_due_again before after made.looks room memory
+              (room_tells env choices before from (Err status) after to made));
+          failed = (becomes after made.mode, memory);
           entries = made.makes.entries;
           breaks = inr (inr (inl made));
           snapshots = ap (λ (e : EngineOf E C FP F B). e.snapshots) made.rest;
           options = room_tells env choices before from (Err status) after to made;
           rest = rest_roomless env before from opened choices items sync after to status made;
           time = made.makes.keeps.sound.time;
-          cause = record { later = made.makes.keeps.cause.later; cause = excused made.makes.keeps.cause.cause };
+          cause = record { later = made.makes.keeps.cause.later; cause = excused };
         }
       where
+        memory : KeepsMemory before after
+        memory = (
+          made.makes.keeps.rest.last,
+          λ room.
+              let same = (made.makes.not_full room).memory in (
+                ap (λ (v : OpenStoreValue C). v.mem.entries) same,
+                ap (λ (v : OpenStoreValue C). v.imm) same,
+              ),
+        )
+
         step : Answers keys env formats (Some before) from (write items sync)
             (done_or {T = Unit {0}} (Err status)) (Some after) to
         step store meaning modelled old was = room_fails env choices store meaning before from old was
             opened modelled ignores after to items sync status made
 
-        -- where it isn't full, nothing fails
-        full : IsFull before.options.write_buffer_size before.store.mem
-        full = ⊎_elim (λ is. is)
-            (λ (room : IsFull before.options.write_buffer_size before.store.mem → ⊥).
-            absurd (made.makes.not_full room).2)
-            (full_or_not before.options.write_buffer_size before.store.mem)
-
-        excused : FailsToCompactRange keys env (tables_by formats before) before.store from
+        where_full : IsFull before.options.write_buffer_size before.store.mem
+            → FailsToCompactRange keys env (tables_by formats before) before.store from
             before.tables (choices (engine_options before)) after.store status
             ⊎ HasFailed (env.failures from) (env.failures to)
             → WriteExcused env choices before from items after.store status
             ⊎ HasFailed (env.failures from) (env.failures to)
-        excused (inl why) = inl (inr (inr (inr (inr (inr (inl (full, inl why)))))))
-        excused (inr failed) = inr failed
+        where_full full (inl why) = inl (inr (inr (inr (inr (inr (inl (full, inl why)))))))
+        where_full full (inr failed) = inr failed
+
+        where_due : has_compaction_due before ≡ true
+            → FailsToMerge keys env (tables_by formats before) before.store from before.tables
+            (choices (engine_options before)) after.store status
+            ⊎ HasFailed (env.failures from) (env.failures to)
+            → WriteExcused env choices before from items after.store status
+            ⊎ HasFailed (env.failures from) (env.failures to)
+        where_due due (inl why) = inl (inr (inr (inr (inr (inr (inr (inl (due, why))))))))
+        where_due due (inr failed) = inr failed
+
+        -- where it isn't full and no compaction is due, nothing fails
+        excused : WriteExcused env choices before from items after.store status
+            ⊎ HasFailed (env.failures from) (env.failures to)
+        excused = ⊎_elim
+            (λ (full : IsFull before.options.write_buffer_size before.store.mem).
+            where_full full made.makes.keeps.cause.cause)
+            (λ (room : IsFull before.options.write_buffer_size before.store.mem → ⊥). ⊎_elim
+            (λ (due : has_compaction_due before ≡ true).
+            where_due due (made.makes.merges room).cause)
+            (λ (none : has_compaction_due before ≡ false).
+            absurd ((made.makes.not_full room).none none).2)
+            (cases_Bool (has_compaction_due before)))
+            (full_or_not before.options.write_buffer_size before.store.mem)
 
     module _ (roomy : EngineOf E C FP F B) (mid : E)
         (made : EngineMakesRoom env choices before from (Ok tt) roomy mid)
@@ -213,7 +244,7 @@ module _ {E C FP F P : Type 0} {B : Boxed} {keys : InternalOrder C} {key_filters
               room,
               subst (λ (v : OpenStoreValue C).
                   IsUnion v.mem.entries batch value.mem.entries)
-                  (made.makes.not_full room).0 gains,
+                  (made.makes.not_full room).memory gains,
             ))
             (full_or_not before.options.write_buffer_size before.store.mem),
       )
@@ -235,22 +266,39 @@ module _ {E C FP F P : Type 0} {B : Boxed} {keys : InternalOrder C} {key_filters
           (λ (full : IsFull before.options.write_buffer_size before.store.mem).
           inl (waits ∙ (made.makes.empties full).2))
           (λ (room : IsFull before.options.write_buffer_size before.store.mem → ⊥).
-          inr (room, waits ∙ ap (λ (v : OpenStoreValue C). v.imm) (made.makes.not_full room).0))
+          inr (
+            room,
+            waits ∙ ap (λ (v : OpenStoreValue C). v.imm) (made.makes.not_full room).memory,
+          ))
           (full_or_not before.options.write_buffer_size before.store.mem)
       batch_waits (Err status) writes = tt
 
-      -- and what was logged is what room in the memtable logged
+      -- a batch logs no edit
+      logged_then : (result : Result (Unit {0}) Status)
+          → WritesBatch env (formats (engine_options roomy)).order roomy.store mid items sync result value
+          to → record value.set { last_sequence = before.store.set.last_sequence } ≡ roomy.store.set
+      logged_then result writes = ap (λ (v : OpenStoreValue C).
+          record v.set { last_sequence = before.store.set.last_sequence }) writes.rest
+          ∙ ap (λ n. record roomy.store.set { last_sequence = n }) (sym made.makes.keeps.rest.last)
+
+      -- and so what was logged is what room in the memtable logged
       batch_logs : (result : Result (Unit {0}) Status)
           → WritesBatch env (formats (engine_options roomy)).order roomy.store mid items sync result value
           to → OnOk result (IsMemtableFull before → LogsRoom before.store.set
           (record value.set { last_sequence = before.store.set.last_sequence }))
-      batch_logs (Ok nothing) writes = λ full.
-          let same = ap (λ (v : OpenStoreValue C).
-          record v.set { last_sequence = before.store.set.last_sequence }) writes.rest
-          ∙ ap (λ n. record roomy.store.set { last_sequence = n }) (sym made.makes.keeps.rest.last) in
-          subst (LogsRoom before.store.set) (sym same)
-          (made.makes.logs full)
+      batch_logs (Ok nothing) writes = λ full. subst (LogsRoom before.store.set)
+          (sym (logged_then (Ok nothing) writes)) (made.makes.logs full)
       batch_logs (Err status) writes = tt
+
+      batch_compacts : (result : Result (Unit {0}) Status)
+          → WritesBatch env (formats (engine_options roomy)).order roomy.store mid items sync result value
+          to → OnOk result ((IsMemtableFull before → ⊥)
+          → LogsIfDue (has_compaction_due before) before.store.set
+          (record value.set { last_sequence = before.store.set.last_sequence }))
+      batch_compacts (Ok nothing) writes = λ room.
+          subst (LogsIfDue (has_compaction_due before) before.store.set)
+          (sym (logged_then (Ok nothing) writes)) (made.makes.not_full room).logs
+      batch_compacts (Err status) writes = tt
 
       -- or it isn't written, and no answer changes
       batch_failed : (result : Result (Unit {0}) Status)
@@ -261,13 +309,24 @@ module _ {E C FP F P : Type 0} {B : Boxed} {keys : InternalOrder C} {key_filters
         becomes ended follows,
         (
           writes.err.1 ∙ made.makes.keeps.rest.last,
-          λ room. let same = (made.makes.not_full room).0 in (
+          λ room. let same = (made.makes.not_full room).memory in (
             writes.err.0 ∙ ap (λ (v : OpenStoreValue C). v.mem.entries) same,
             ap (λ (v : OpenStoreValue C). v.imm) writes.rest
                 ∙ ap (λ (v : OpenStoreValue C). v.imm) same,
           ),
         ),
       )
+
+      -- and no compaction is due when it is made again
+      batch_again : (result : Result (Unit {0}) Status)
+          → WritesBatch env (formats (engine_options roomy)).order roomy.store mid items sync result value
+          to → OnErr result ((IsMemtableFull before → ⊥)
+          → (has_compaction_due ended ≡ false) ⊎ (ended ≡ before))
+      batch_again (Ok nothing) writes = tt
+      batch_again (Err status) writes = λ room. inl (none_due_again before ended made.looks room
+          (batch_failed (Err status) writes).1
+          (batch_tells env choices before from roomy mid made value
+          (ap (λ (v : OpenStoreValue C). v.cmp) writes.rest)))
 
       -- then no call was made, or the log is broken
       batch_breaks : (result : Result (Unit {0}) Status)
@@ -320,26 +379,18 @@ module _ {E C FP F P : Type 0} {B : Boxed} {keys : InternalOrder C} {key_filters
           (λ (room : IsFull before.options.write_buffer_size before.store.mem → ⊥).
           inr (inr (inr (inr (inl (subst (λ (v : OpenStoreValue C).
           FailsToPrepare v.mem (length items) (bytes_in items) status)
-          (made.makes.not_full room).0 fails))))))
+          (made.makes.not_full room).memory fails))))))
           (full_or_not before.options.write_buffer_size before.store.mem)
       batch_excused status (inr (inl (inl memory))) = inr (inr (inl memory))
       batch_excused status (inr (inl (inr missing))) = ⊎_elim
           (λ (full : IsFull before.options.write_buffer_size before.store.mem).
-          inr (inr (inr (inr (inr (inl (
-            full,
-            inl (inl (inr (inr (inr (record {
-              fault = inl missing.0.code;
-              lacks = λ meaning live has.
-                  let kept = made.makes.keeps.keeps has.has_open meaning has.agrees (λ it. true)
-                  has.written in
-                  absurd (log_is_there (formats (engine_options before)).order meaning roomy.store
-                  (env.observed mid).disk.files (kept.written made.makes.keeps.usable)
-                  (missing.1 has.has_open.modelled));
-            }))))),
-          )))))))
-          (λ (room : IsFull before.options.write_buffer_size before.store.mem → ⊥).
-          let still = made.makes.not_full room in
-          inr (inr (inr (inr (inr (inr (
+          inr (inr (inr (inr (inr (inl (full, inl (inl (inr (inr (inr lost)))))))))))
+          (λ (room : IsFull before.options.write_buffer_size before.store.mem → ⊥). ⊎_elim
+          (λ (due : has_compaction_due before ≡ true).
+          inr (inr (inr (inr (inr (inr (inl (due, inr (inr (inr lost))))))))))
+          (λ (none : has_compaction_due before ≡ false).
+          let still = (made.makes.not_full room).none none in
+          inr (inr (inr (inr (inr (inr (inr (
             missing.0.code,
             λ modelled meaning agrees written.
                 log_is_there (formats (engine_options before)).order meaning roomy.store
@@ -349,8 +400,21 @@ module _ {E C FP F P : Type 0} {B : Boxed} {keys : InternalOrder C} {key_filters
                 (subst (λ (e : E). IsWritten (formats (engine_options before)).order meaning
                 before.store (env.observed e).disk.files) (sym still.1) written))
                 (missing.1 modelled),
-          )))))))
+          ))))))))
+          (cases_Bool (has_compaction_due before)))
           (full_or_not before.options.write_buffer_size before.store.mem)
+        where
+          lost : AreInputsLost keys env (tables_by formats before) before.store from before.tables
+              status
+          lost = record {
+            fault = inl missing.0.code;
+            lacks = λ meaning live has.
+                let kept = made.makes.keeps.keeps has.has_open meaning has.agrees (λ it. true)
+                has.written in
+                absurd (log_is_there (formats (engine_options before)).order meaning roomy.store
+                (env.observed mid).disk.files (kept.written made.makes.keeps.usable)
+                (missing.1 has.has_open.modelled));
+          }
       batch_excused status (inr (inr broke)) = absurd (let never : true ≡ false = sym broke.0
           ∙ made.makes.keeps.usable.log in cc)
 
@@ -414,6 +478,9 @@ module _ {E C FP F P : Type 0} {B : Boxed} {keys : InternalOrder C} {key_filters
             written = batch_written result writes_in;
             waits = batch_waits result writes_in;
             logs = batch_logs result writes_in;
+            compacts = batch_compacts result writes_in;
+            looks = inl made.looks;
+            again = batch_again result writes_in;
             failed = batch_failed result writes_in;
             entries = batch_entries result writes_in;
             breaks = batch_breaks result writes_in;

@@ -74,7 +74,8 @@ pub room_tells : {E C FP F P : Type 0} {B : Boxed} {keys : InternalOrder C}
     → EngineMakesRoom env choices before from result after to
     → ChangesLoggerOnly (engine_options before) (engine_options after)
 room_tells env choices before from result after to made =
-    store_tells before after made.rest made.makes.keeps.rest.cmp made.sink
+    store_tells (record before { looked_at = after.looked_at }) after made.rest
+    made.makes.keeps.rest.cmp made.sink
 
 -- what tables are opened with stays
 pub room_by : {E C FP F P : Type 0} {B : Boxed} {keys : InternalOrder C}

@@ -76,6 +76,7 @@ module _ {E C FP F P : Type 0} {B : Boxed} {keys : InternalOrder C} {key_filters
     cache (choices options) (Ok tt) engine.store to engine.tables)
     (mode : engine.mode ≡ open_mode)
     (unheld : engine.snapshots ≡ record { held = []; given = 0 })
+    (unlooked : engine.looked_at ≡ 0)
     (lock : engine.lock ≡ lock_path store)
     (tells : ChangesLoggerOnly options engine.options) (cmp : first.cmp ≡ options.cmp)
     (ignores : (a b : OptionsOf C FP B) → ChangesLoggerOnly a b → formats_of choices b ≡ formats_of choices a)
@@ -285,6 +286,7 @@ module _ {E C FP F P : Type 0} {B : Boxed} {keys : InternalOrder C} {key_filters
       options = tells_in;
       place = kept.rest.store ∙ opens.path;
       lock = lock ∙ ap lock_path (sym (kept.rest.store ∙ opens.path));
+      looks = unlooked;
     };
     ends = record {
       taken = taken;

@@ -34,10 +34,10 @@ use Rattle.leveldb_files.specs.Levels.Overlap.{named_range}
 use Rattle.rusty_leveldb.specs.Machines.Causes.{IsLongBatch}
 use Rattle.rusty_leveldb.specs.Machines.State.{Opening, Request, Snapshot, State, open_mode, open_store, write, get, get_snapshot, release_snapshot, flush, compact_range, close, abandon}
 use Rattle.rusty_leveldb.specs.Engines.Serves.{AreReadAs, done_or, found_or, given_engine, snapshot_of, snapshot_or}
-use Rattle.rusty_leveldb.specs.Engines.Engine.{IsClosed, IsBroken, IsClosedOrBroken, IsEngineSequence, RefusedByMode, AnswersAs, Answers, WriteExcused, SyncExcused, CloseExcused, CompactExcused, GetExcused, GetFails, SnapshotExcused, ReleaseExcused, WalkExcused, IsStoreName, IsOpening, HasOwnLock, formats_of, holds_lock, engine_options, tables_by}
+use Rattle.rusty_leveldb.specs.Engines.Engine.{IsClosed, IsBroken, IsClosedOrBroken, IsEngineSequence, RefusedByMode, AnswersAs, Answers, WriteExcused, SyncExcused, CloseExcused, CompactExcused, GetExcused, GetFails, SnapshotExcused, ReleaseExcused, WalkExcused, IsStoreName, IsOpening, HasOwnLock, WriteMovesLookedAt, formats_of, holds_lock, engine_options, has_compaction_due, tables_by}
 use Rattle.rusty_leveldb.specs.Engines.Frame.{IsOwn, IsSyncing, MayTouchOrLog, SameBytes, Spares}
 use Rattle.rusty_leveldb.specs.Machines.Machine.{AllDurable, Closes, Gives, Keeps, Opens, Releases, Writes, risk_of}
-use Rattle.rusty_leveldb.specs.Engines.Room.{EngineMakesRoom, LogsRoom, KeepsOrCompacts, entries_added}
+use Rattle.rusty_leveldb.specs.Engines.Room.{EngineMakesRoom, LogsIfDue, LogsRoom, KeepsOrCompacts, entries_added}
 use Rattle.rusty_leveldb.specs.Engines.Rows.{FindsValue, FromEachState, FromStatesOf, IsAbandoned, NotClosed, NotCompacted, NotFlushed, NotOpened, NotUnlocked, NotWritten, RepresentsAt, Row, StaysAsItWas, WalksView}
 use Rattle.rusty_leveldb.specs.Openings.Unopened.{IsLockGivenBack, IsLockHeld, MakesLockAlone, NeverOpens, OpenExcused}
 use Rattle.rusty_leveldb.specs.Engines.Boxes.{EngineOf, InternalOrder}
@@ -87,11 +87,12 @@ module _ {E C FP F : Type 0} {B : Boxed} (env : Ghosts E F) where
 -- ---- what becomes of an engine
 
 module _ {E C FP F : Type 0} {B : Boxed} where
-  -- what a read leaves of an engine: its mode, and its store but for the version (of which a
-  -- look-up charges a file with a seek, and may choose it)
+  -- what a read leaves of an engine: its mode, its store but for the version (of which a look-up
+  -- charges a file with a seek, and may choose it), and when a compaction was last looked for
   abbrev pub IsReadOnly : EngineOf E C FP F B → EngineOf E C FP F B → Type 0
   IsReadOnly before after = (after.mode ≡ before.mode)
       × (after.store ≡ record before.store { current = after.store.current })
+      × (after.looked_at ≡ before.looked_at)
 
   -- its mode is as before, or the call broke it
   abbrev pub KeepsModeOrBreaks : EngineOf E C FP F B → EngineOf E C FP F B → Type 0
@@ -160,8 +161,8 @@ module _ {E C FP F P : Type 0} {B : Boxed} {keys : InternalOrder C} {key_filters
       FromEachState keys env (formats_of choices) (Some before) from (Some after) to row
 
   -- A write of these items fails so, and makes no call of the device for its batch: nothing is done;
-  -- or room in the memtable isn't made, and that is all; or it is made, and then memory is out, the
-  -- numbers are used up, or the memtable has too little room.
+  -- or room in the memtable isn't made, or a compaction that is due isn't done, and that is all; or
+  -- it is, and then memory is out, the numbers are used up, or the memtable has too little room.
   abbrev pub AppendsNothing : List Item → Status → EngineOf E C FP F B → E → Type 0
   AppendsNothing items status after to = (to ≡ from)
       ⊎ EngineMakesRoom env choices before from (Err status) after to
@@ -192,6 +193,18 @@ module _ {E C FP F P : Type 0} {B : Boxed} {keys : InternalOrder C} {key_filters
     -- where a level's score asks for it
     pub logs : OnOk result (IsMemtableFull before → LogsRoom before.store.set
         (record after.store.set { last_sequence = before.store.set.last_sequence }))
+    -- and where it wasn't, the compaction that was due, and else nothing
+    pub compacts : OnOk result ((IsMemtableFull before → ⊥)
+        → LogsIfDue (has_compaction_due before) before.store.set
+        (record after.store.set { last_sequence = before.store.set.last_sequence }))
+    -- one is looked for once for each part by which the memtable grows, also where it fails then; or
+    -- the write failed before, and did nothing
+    pub looks : WriteMovesLookedAt before after ⊎ ((to ≡ from) × (after ≡ before)
+        × IsErrAnd result (λ e. RefusedByMode before.mode e
+        ⊎ ((e.code ≡ InvalidArgument) × IsLongBatch items) ⊎ IsOutOfMemory e))
+    -- so one that failed isn't due when the write is made again, unless the write did nothing
+    pub again : OnErr result ((IsMemtableFull before → ⊥)
+        → (has_compaction_due after ≡ false) ⊎ (after ≡ before))
     -- Err leaves what memory shows, and the mode, or a broken store
     pub failed : OnErr result (KeepsModeOrBreaks before after × KeepsMemory before after)
     -- Ok or Err, and whatever the files are: what was in memory, and the batch if it was written,
@@ -227,6 +240,8 @@ module _ {E C FP F P : Type 0} {B : Boxed} {keys : InternalOrder C} {key_filters
         × (IsClosedOrBroken after.mode ⊎ IsOutOfMemory e))
     pub memory : KeepsAllButWriter before after
     pub snapshots : after.snapshots ≡ before.snapshots
+    -- when a compaction was last looked for
+    pub looks : after.looked_at ≡ before.looked_at
     pub options : ChangesLoggerOnly (engine_options before) (engine_options after)
     pub rest : LeavesRest env before from flush result after to
     pub time : TimeGoesOn env from to
@@ -272,6 +287,8 @@ module _ {E C FP F P : Type 0} {B : Boxed} {keys : InternalOrder C} {key_filters
         OnOk result (AreClearOf order (named_range low high) (deepest_overlapped order
         (named_range low high) before.store.set.full.added) after.store.set.full.added)
     pub snapshots : after.snapshots ≡ before.snapshots
+    -- when a compaction was last looked for
+    pub looks : after.looked_at ≡ before.looked_at
     pub options : ChangesLoggerOnly (engine_options before) (engine_options after)
     pub rest : LeavesRest env before from (compact_range low high) result after to
     pub time : TimeGoesOn env from to
@@ -396,6 +413,8 @@ module _ {E C FP F P : Type 0} {B : Boxed} {keys : InternalOrder C} {key_filters
     pub failed : OnErr result (IsBroken after.mode ⊎ (IsClosed before.mode × IsClosed after.mode))
     pub memory : KeepsAllButWriter before after
     pub snapshots : after.snapshots ≡ before.snapshots
+    -- when a compaction was last looked for
+    pub looks : after.looked_at ≡ before.looked_at
     pub options : ChangesLoggerOnly (engine_options before) (engine_options after)
     pub rest : LeavesRest env before from close result after to
     pub time : TimeGoesOn env from to
@@ -438,6 +457,8 @@ module _ {E C FP F : Type 0} {B : Boxed} (env : Ghosts E F)
     -- its store is that of the name
     pub place : engine.store.set.store ≡ name
     pub lock : HasOwnLock engine
+    -- no write has looked for a compaction
+    pub looks : engine.looked_at ≡ 0
 
 module _ {E C FP F P : Type 0} {B : Boxed} {keys : InternalOrder C} {key_filters : FilterGhosts P}
     (env : Ghosts E F) (choices : OptionsOf C FP B → TableChoices keys key_filters) where

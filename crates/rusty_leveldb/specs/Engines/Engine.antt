@@ -1,5 +1,5 @@
 -- What an engine has in memory, what that has to do with the disk, and what its calls return.
-use Rattle.std.specs.Prelude.{◌≡◌, ◌≢◌, ◌≤◌, ◌⊎◌, ◌↔◌, ℕ, Bool, List, [], ◌∷◌, ◌++◌, length, map, Contains, Option, Some, None, IsTrue, ◌&&◌, nat_le, ◌^◌, Result, is_some}
+use Rattle.std.specs.Prelude.{◌≡◌, ◌≢◌, ◌≤◌, ◌⊎◌, ◌↔◌, ℕ, Bool, true, List, [], ◌∷◌, ◌++◌, length, map, Contains, Option, Some, None, IsTrue, ◌&&◌, nat_le, ◌^◌, Result, is_some}
 use Rattle.leveldb_base.specs.declared.cmp.Cmp.{Ghosts as CmpGhosts}
 use Rattle.leveldb_base.specs.declared.error.Status.{Status}
 use Rattle.leveldb_base.specs.declared.error.StatusCode.TheVariants.{InvalidArgument, NotSupported}
@@ -17,13 +17,14 @@ use Rattle.leveldb_mem.specs.MemTable.{FailsToPrepare, Kept, bytes_in}
 use Rattle.leveldb_files.specs.Stores.Paths.{lock_path}
 use Rattle.leveldb_files.specs.Stores.Contents.{made}
 use Rattle.leveldb_store.specs.Tables.BuildTable.{TableChoices}
-use Rattle.leveldb_store.specs.Compactions.Compact.{FailsToCompactRange}
+use Rattle.leveldb_store.specs.Compactions.Compact.{FailsToCompactRange, FailsToMerge}
 use Rattle.leveldb_files.specs.Stores.Format.{Format, IsTableFault, LacksCompressor, Meaning, format_of}
 use Rattle.leveldb_files.specs.Levels.Levels.{LiveTable}
 use Rattle.leveldb_version.specs.Tables.TableCache.{TableOptions, table_options}
 use Rattle.leveldb_store.specs.Keeping.OpenStore.{OpenStoreValue}
 use Rattle.leveldb_store.specs.Keeping.OpenTables.{AreOpenTablesOf}
 use Rattle.leveldb_store.specs.Reading.Read.{HasTablesToRead}
+use Rattle.leveldb_store.specs.Writing.Due.{MovesLookedAt, is_compaction_due}
 use Rattle.leveldb_store.specs.Writing.Room.{FailsFor, IsFileLost, IsFull}
 use Rattle.leveldb_store.specs.Writing.Write.{IsLogLost}
 use Rattle.leveldb_store.specs.Keeping.Written.{IsWritten, HasView}
@@ -215,6 +216,17 @@ abbrev pub ReleaseExcused : {E C FP F : Type 0} {B : Boxed}
 ReleaseExcused engine one e = RefusedAsClosed engine.mode e
     ⊎ ((e.code ≡ InvalidArgument) × IsNotHeld (held_in engine) (Some one))
 
+-- a compaction is due before a batch for which the memtable has room
+abbrev pub has_compaction_due : {E C FP F : Type 0} {B : Boxed} → EngineOf E C FP F B → Bool
+has_compaction_due engine =
+    is_compaction_due engine.options.max_file_size engine.looked_at engine.store
+
+-- what a write leaves of how much memory the memtable took when a compaction was last looked for
+abbrev pub WriteMovesLookedAt : {E C FP F : Type 0} {B : Boxed} → EngineOf E C FP F B
+    → EngineOf E C FP F B → Type 0
+WriteMovesLookedAt before after = MovesLookedAt before.options.write_buffer_size
+    before.options.max_file_size before.store before.looked_at after.looked_at
+
 -- a memtable without entries
 abbrev pub empty_memtable : Kept
 empty_memtable = record { entries = []; places = 0; bytes = 0 }
@@ -231,8 +243,9 @@ module _ {E C FP F P : Type 0} {B : Boxed} {keys : InternalOrder C} {key_filters
   -- long, memory ran out, no numbers of entries are left, or the entries are too many in memory.
   -- And where the memtable is full: no tables are made of what is in memory, or tables aren't
   -- merged in the compaction for which the store asks then (`FailsToCompactRange`); or the batch is
-  -- too large for an empty memtable. Or a file is lost. `left` is the store after the call: its
-  -- next number tells whether the numbers of files are used up.
+  -- too large for an empty memtable. Where a compaction is due, tables aren't merged. Or a file is
+  -- lost. `left` is the store after the call: its next number tells whether the numbers of files
+  -- are used up.
   abbrev pub WriteExcused : List Item → OpenStoreValue C → Status → Type 0
   WriteExcused items left e = RefusedByMode engine.mode e
       ⊎ ((e.code ≡ InvalidArgument) × IsLongBatch items)
@@ -243,6 +256,8 @@ module _ {E C FP F P : Type 0} {B : Boxed} {keys : InternalOrder C} {key_filters
       × (FailsToCompactRange keys env (tables_by (formats_of choices) engine) engine.store at
       engine.tables choices_in left e
       ⊎ FailsToPrepare empty_memtable (length items) (bytes_in items) e))
+      ⊎ ((has_compaction_due engine ≡ true) × FailsToMerge keys env
+      (tables_by (formats_of choices) engine) engine.store at engine.tables choices_in left e)
       ⊎ IsFileLost env choices_in.format.order engine.store at choices_in.format e
 
   -- Why a compaction of a range may fail where the device didn't: the store is closed or broken, an

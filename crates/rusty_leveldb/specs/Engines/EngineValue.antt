@@ -16,6 +16,8 @@ pub record EngineValue (C O T : Type 0) : Type 0 where
   pub store : OpenStoreValue C
   pub tables : T
   pub snapshots : HeldSnapshots
+  -- how much memory its memtable took when a write last looked for a compaction
+  pub looked_at : ℕ
   -- open, broken or closed
   pub mode : machine.Mode
 

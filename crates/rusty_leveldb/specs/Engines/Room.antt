@@ -1,6 +1,6 @@
 -- What room in an engine's memtable leaves: a memtable that is full becomes a table, and then the
--- compaction is done for which the store asks.
-use Rattle.std.specs.Prelude.{◌≡◌, ◌≢◌, ◌⊎◌, ◌++◌, ℕ, List, [], None, Result, Ok, Err, IfErr, IsTrue, OnErr, OnOk, is_some}
+-- compaction is done for which the store asks; where there is room, the one that is due.
+use Rattle.std.specs.Prelude.{◌≡◌, ◌≢◌, ◌⊎◌, ◌++◌, ℕ, Bool, false, true, List, [], None, Result, Ok, Err, IfErr, IsTrue, OnErr, OnOk, is_some}
 use Rattle.leveldb_base.specs.Error.{IsOutOfMemory}
 use Rattle.leveldb_base.specs.History.{Entry}
 use Rattle.leveldb_base.specs.declared.cmp.Cmp.{Ghosts as CmpGhosts}
@@ -17,15 +17,15 @@ use Rattle.leveldb_version.specs.Tables.TableCache.{TableOptions}
 use Rattle.leveldb_version_set.specs.Sets.VersionSetValue.{VersionSetValue}
 use Rattle.leveldb_version.specs.declared.table_cache.TableCache.{TableCache}
 use Rattle.leveldb_store.specs.Tables.BuildTable.{TableChoices}
-use Rattle.leveldb_store.specs.Compactions.Compact.{FailsToCompactRange, KeepsCompacted}
+use Rattle.leveldb_store.specs.Compactions.Compact.{FailsToCompactRange, FailsToMerge, KeepsCompacted}
 use Rattle.leveldb_store.specs.Keeping.KeptEntries.{CompactsOnceAtMost, KeepsEntries}
 use Rattle.leveldb_store.specs.Keeping.LoggedEdits.{LogsByScore, LogsTableEdits}
 use Rattle.leveldb_store.specs.Keeping.OpenStore.{OpenStoreValue}
 use Rattle.leveldb_store.specs.Reading.Read.{in_memory}
-use Rattle.leveldb_store.specs.Writing.Room.{IsFull}
+use Rattle.leveldb_store.specs.Writing.Room.{FailsFor, IsFull}
 use Rattle.rusty_leveldb.specs.Engines.Boxes.{EngineOf, InternalOrder}
 use Rattle.rusty_leveldb.specs.Compactions.Compact.{ChangesStore}
-use Rattle.rusty_leveldb.specs.Engines.Engine.{formats_of, engine_options, tables_by}
+use Rattle.rusty_leveldb.specs.Engines.Engine.{WriteMovesLookedAt, engine_options, formats_of, has_compaction_due, tables_by}
 use Rattle.rusty_leveldb.specs.Engines.EngineValue.{FollowsStore}
 
 -- What was logged: tables of memtables, which take no file away, and then at most one edit of a
@@ -35,6 +35,12 @@ pub record LogsRoom (old new : VersionSetValue) : Type 0 where
   pub tables_made : VersionSetValue
   pub tables : LogsTableEdits 2 old tables_made
   pub by_score : LogsByScore tables_made new
+
+-- What was logged where a compaction was due, or wasn't: one edit, which takes a file from the level
+-- whose score asks for it; or nothing.
+abbrev pub LogsIfDue : Bool → VersionSetValue → VersionSetValue → Type 0
+LogsIfDue true old new = LogsByScore old new
+LogsIfDue false old new = new ≡ old
 
 -- the entries that a write of this batch adds, by what it returns
 abbrev pub entries_added : Result (Unit {0}) Status → List Entry → List Entry
@@ -63,19 +69,32 @@ pub record KeepsOrCompacts {E F C : Type 0} (env : Ghosts E F) (format : Format)
   -- and what is in memory stays there, with the batch, and nothing else is
   pub memory : SameEntries (in_memory tables_made ++ batch) (in_memory new)
 
--- Room is made in the memtable of a store that isn't broken, and where it was full the compaction
--- is done for which the store asks then, down to the smallest number at which it is read.
+-- In a store whose memtable has room the compaction is done that is due, or nothing.
+pub record CompactsIfDue {E C : Type 0} (due : Bool) (old : OpenStoreValue C) (from : E)
+    (result : Result (Unit {0}) Status) (new : OpenStoreValue C) (to : E) : Type 0 where
+  -- what is in memory stays
+  pub memory : new ≡ record old { set = new.set; current = new.current }
+  pub none : due ≡ false → (new ≡ old) × (to ≡ from) × OnErr result ⊥
+  pub logs : OnOk result (LogsIfDue due old.set new.set)
+
+-- Room is made in the memtable of a store that isn't broken. Where it was full the compaction is
+-- done for which the store asks then, and where it wasn't the one that is due, down to the smallest
+-- number at which the store is read.
 pub record StoreMakesRoom {E F C FP D P : Type 0} (order : CmpGhosts (InternalKeyCmp C))
     (env : Ghosts E F) (by : TableOptions C FP) (old : OpenStoreValue C) (from : E)
     (tables : TableCache E C FP F) {keys : CmpGhosts D} {filters : FilterGhosts P}
-    (choices : TableChoices keys filters) (limit smallest : ℕ) (result : Result (Unit {0}) Status)
-    (new : OpenStoreValue C) (to : E) (now : TableCache E C FP F) : Type 0 where
+    (choices : TableChoices keys filters) (limit smallest : ℕ) (due : Bool)
+    (result : Result (Unit {0}) Status) (new : OpenStoreValue C) (to : E)
+    (now : TableCache E C FP F) : Type 0 where
   -- It fails for what a compaction of a range fails for: no tables are made of what is in memory,
   -- or tables aren't merged.
   pub keeps : KeepsCompacted order env by old from tables smallest
       (FailsToCompactRange order env by old from tables choices) result new to now
-  -- where it isn't full, nothing is done
-  pub not_full : (IsFull limit old.mem → ⊥) → (new ≡ old) × (to ≡ from) × OnErr result ⊥
+  -- where it isn't full, no table is made of what is in memory, and nothing fails but a merge
+  pub not_full : (IsFull limit old.mem → ⊥) → CompactsIfDue due old from result new to
+  pub merges : (IsFull limit old.mem → ⊥)
+      → FailsFor (FailsToMerge order env by old from tables choices new) (env.failures from)
+      (env.failures to) result
   -- and one that was full is empty then, no place is taken in it, and there is no immutable one
   pub empties : OnOk result (IsFull limit old.mem
       → (new.mem.entries ≡ []) × (new.mem.places ≡ 0) × (new.imm ≡ None))
@@ -97,9 +116,10 @@ pub record EngineMakesRoom {E C FP F P : Type 0} {B : Boxed} {keys : InternalOrd
   pub is_smallest : IsSmallestHeld before.snapshots.held before.store.set.last_sequence smallest
   pub makes : StoreMakesRoom keys env (tables_by (formats_of choices) before) before.store from
       before.tables (choices (engine_options before)) before.options.write_buffer_size smallest
-      result after.store to after.tables
+      (has_compaction_due before) result after.store to after.tables
+  pub looks : WriteMovesLookedAt before after
   -- nothing else of the engine changes but the sink of the options' log, and its mode
-  pub rest : ChangesStore before after
+  pub rest : ChangesStore (record before { looked_at = after.looked_at }) after
   pub sink : is_some after.options.log ≡ is_some before.options.log
   -- it is broken where the store is
   pub mode : FollowsStore after.mode after.store

@@ -51,6 +51,8 @@ pub struct Engine<E: Env, C: Cmp, FP, O = Options<C, FP>, T = TableCache<E, C, F
     pub(crate) snapshots: SnapshotList,
     // What its iterators read, until a compaction is looked for.
     pub(crate) samples: ReadSamples,
+    // How much memory the memtable took when a write last looked for a compaction.
+    pub(crate) looked_at: usize,
     pub(crate) mode: Mode,
 }
 
@@ -66,6 +68,7 @@ impl<E: Env, C: Cmp + Drop, FP: Drop, O: Drop, T: Drop> Drop for Engine<E, C, FP
             policy: _,
             snapshots,
             samples,
+            looked_at: _,
             mode: _,
         } = self;
         drop(options);
@@ -89,6 +92,7 @@ impl<E: Env, C: Cmp, FP, O, T> Model for Engine<E, C, FP, O, T> {
       store = it.store;
       tables = it.tables;
       snapshots = it.snapshots;
+      looked_at = it.looked_at;
       mode = mode_of it.mode;
     } };
 

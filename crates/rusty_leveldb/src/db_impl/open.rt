@@ -69,6 +69,7 @@ impl<E: Env, C: UserCmp + Copy, FP: FilterPolicy + Copy> Engine<E, C, FP> {
                     policy: PhantomData,
                     snapshots: SnapshotList::new(alloc),
                     samples: ReadSamples::new(alloc),
+                    looked_at: 0,
                     mode: Mode::Open,
                 })
             }

@@ -153,8 +153,9 @@ impl<'e, E: Env, C: UserCmp + Copy, FP: FilterPolicy + Copy> Store<'e, E, Engine
 
     /// Makes the batch's changes together, in their order and after all others. A memtable that is
     /// full becomes a table first, and then one compaction is done where a level's score or reads
-    /// ask for it. If that fails, so does the write; made again it goes through, unless the store
-    /// broke.
+    /// ask for it. Where the memtable has room, but has grown by a part, one is done where a level's
+    /// score asks for it. If that fails, so does the write; made again it goes through, unless the
+    /// store broke.
     ///
     /// Ok: the history ends with the batch (`Writes`); with `sync` all of it is durable.
     /// Err: no answer changes; out of memory or by the device the store may be broken, as it is by

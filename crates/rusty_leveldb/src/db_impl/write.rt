@@ -6,6 +6,7 @@ ghost use Rattle.rusty_leveldb.specs.Machines.State.{open_mode};
 ghost use Rattle.leveldb_store.specs.Tables.BuildTable.{choices_of};
 ghost use Rattle.leveldb_version.specs.Tables.TableCache.{table_options};
 ghost use Rattle.leveldb_store.specs.Keeping.OpenStore.{IsUnbroken};
+ghost use Rattle.leveldb_store.specs.Writing.Due.{MovesLookedAt, is_compaction_due};
 ghost use Rattle.rusty_leveldb.specs.Engines.Calls.{EngineFlushes, EngineWrites};
 ghost use Rattle.rusty_leveldb.specs.Engines.Room.{EngineMakesRoom, StoreMakesRoom};
 
@@ -54,8 +55,8 @@ impl<E: Env, C: UserCmp + Copy, FP: FilterPolicy + Copy> Engine<E, C, FP> {
 
     /// Makes the batch's changes together, after all others; with `sync` they are durable once this
     /// is Ok. A memtable that is full becomes a table first, and the compaction is done for which
-    /// the store asks then. An append or a sync of the log that fails breaks the engine.
-    /// `DB::write` says what each result means.
+    /// the store asks then; where the memtable has room, the one is done that is due. An append or
+    /// a sync of the log that fails breaks the engine. `DB::write` says what each result means.
     pub fn write(&mut self, env: &mut E, batch: WriteBatch, sync: bool) -> Result<()>
         ensures { let choices = choices_of C.Cmp FP.FilterPolicy
             ⟦<InternalKeyCmp<C> as Cmp>⟧ ⟦<InternalFilterPolicy<FP> as FilterPolicy>⟧
@@ -72,8 +73,9 @@ impl<E: Env, C: UserCmp + Copy, FP: FilterPolicy + Copy> Engine<E, C, FP> {
     }
 
     // Makes room in the memtable of an engine that is open, where it is full, and does the
-    // compaction then for which its store asks. Entries that are shadowed at the smallest number at
-    // which the engine is read may go. If that breaks the store, the engine is broken.
+    // compaction then for which its store asks; where it isn't full, the one that is due. Entries
+    // that are shadowed at the smallest number at which the engine is read may go. If that breaks
+    // the store, the engine is broken.
     fn make_room(&mut self, env: &mut E) -> Result<()>
         requires { self.old.mode ≡ open_mode }
         ensures { let choices = choices_of C.Cmp FP.FilterPolicy
@@ -90,6 +92,7 @@ impl<E: Env, C: UserCmp + Copy, FP: FilterPolicy + Copy> Engine<E, C, FP> {
             &self.options,
             &mut self.tables,
             &mut self.samples,
+            &mut self.looked_at,
             smallest,
             &mut log,
         );
@@ -113,14 +116,16 @@ impl<E: Env, C: UserCmp + Copy, FP: FilterPolicy + Copy> Engine<E, C, FP> {
 }
 
 // Makes room in the memtable of a store, where it is full. Then the files are charged that samples
-// charge, and the compaction is done for which the store asks. What the removal of obsolete files
-// fails of is a line for `log`.
+// charge, and the compaction is done for which the store asks. Where it isn't full, one is looked
+// for once for each part by which it grows, also where it fails then. What the removal of obsolete
+// files fails of is a line for `log`.
 fn room_in<E: Env, C: UserCmp + Copy + Drop, FP: FilterPolicy + Copy + Drop>(
     store: &mut OpenStore<E, C>,
     env: &mut E,
     options: &Options<C, FP>,
     tables: &mut TableCache<E, C, FP>,
     samples: &mut ReadSamples,
+    looked_at: &mut usize,
     smallest: SequenceNumber,
     log: &mut Option<Logger>,
 ) -> Result<()>
@@ -131,12 +136,20 @@ fn room_in<E: Env, C: UserCmp + Copy + Drop, FP: FilterPolicy + Copy + Drop>(
         ⟦<CompressorList as Compressors>⟧.codings options.now in
         StoreMakesRoom ⟦<InternalKeyCmp<C> as Cmp>⟧ E.Env
         (table_options choices.format options.now) store.old env.old tables.old choices
-        options.now.write_buffer_size smallest result store.new env.new tables.new }
+        options.now.write_buffer_size smallest
+        (is_compaction_due options.now.max_file_size looked_at.old store.old) result store.new
+        env.new tables.new }
+    ensures looks { MovesLookedAt options.now.write_buffer_size options.now.max_file_size store.old
+        looked_at.old looked_at.new }
     ensures log { is_some log.new ≡ is_some log.old }
 {
     if !store.is_full(options.write_buffer_size) {
-        return Ok(());
+        if !store.look_for_compaction(options.max_file_size, looked_at) {
+            return Ok(());
+        }
+        return store.compact_if_asked(env, options, tables, smallest, log);
     }
+    *looked_at = 0;
     let _ = store.make_room(env, options, tables, log)?;
     samples.charge(store);
     store.compact_if_asked(env, options, tables, smallest, log)

@@ -1,4 +1,5 @@
--- There is room, none is made, or it is made and the store compacts what it asks for.
+-- There is room, and the compaction that is due is done, if one is; no room is made; or it is made
+-- and the store compacts what it asks for.
 use Rattle.std.specs.Prelude.{OnOk}
 use Rattle.std.proofs.Common.{◌≡◌, ◌∙◌, ap, false, refl, subst, sym, true}
 use Rattle.std.proofs.lemmas.Result.{err_from_is_err_and}
@@ -6,42 +7,53 @@ use Rattle.leveldb_store.specs.Keeping.KeptEntries.{CompactsOnceAtMost}
 use Rattle.leveldb_store.specs.Keeping.LoggedEdits.{LogsByScore}
 use Rattle.leveldb_store.specs.Keeping.OpenStore.{OpenStoreValue}
 use Rattle.rusty_leveldb.proofs.Walks.ChargesLemmas.{charged_tables}
-use Rattle.rusty_leveldb.proofs.Engines.RoomInLemmas.{room_compacted, room_not_made, room_there}
+use Rattle.rusty_leveldb.proofs.Engines.RoomInLemmas.{due_compacted, room_compacted, room_not_made, room_there}
 use Rattle.rusty_leveldb.proofs.db_impl.write.room_in.Goals as goal
 
-pub returns-then-not-is_full-clause-makes : goal.returns-then-not-is_full-clause-makes
-returns-then-not-is_full-clause-makes g c = room_there _ g.E.Env _ c.args.store.now
-    c.args.env.now c.args.tables.now _ refl _ _
+pub returns-then-not-look_for_compaction-clause-makes :
+    goal.returns-then-not-look_for_compaction-clause-makes
+returns-then-not-look_for_compaction-clause-makes g c = room_there _ g.E.Env _ c.args.store.now
+    c.args.env.now c.args.tables.now _ refl _ _ _
     (λ full. absurd (let never : false ≡ true = c.if-not-is_full.ensures.1 full in cc))
-    c.requires.usable
+    (sym c.if-not-look_for_compaction.ensures.due) c.requires.usable
+
+pub returns-then-not-is_full-clause-makes : goal.returns-then-not-is_full-clause-makes
+returns-then-not-is_full-clause-makes g c =
+    let asked = c.compact_if_asked.ensures.asked in
+    due_compacted _ g.E.Env _ c.args.store.now c.args.env.now c.args.tables.now _ refl _ _ _
+    (λ full. absurd (let never : false ≡ true = c.if-not-is_full.ensures.1 full in cc))
+    (sym c.if-not-look_for_compaction.ensures.due) c.requires.usable
+    c.compact_if_asked.result c.compact_if_asked.new.self c.compact_if_asked.new.env
+    c.compact_if_asked.new.tables c.compact_if_asked.ensures.compacts asked.by_score asked.asks
+    (sym c.requires.order) c.compact_if_asked.ensures.keeps.once
 
 pub returns-in_err-make_room-clause-makes : goal.returns-in_err-make_room-clause-makes
 returns-in_err-make_room-clause-makes g c =
     let p = err_from_is_err_and c.from_residual.result c.from_residual.ensures.1 in
     let failed = c.in_err-make_room.ensures in
     rw (p.1, p.2) (room_not_made _ g.E.Env _ c.args.store.now c.args.env.now c.args.tables.now _
-    refl _ _ (sym c.requires.order) _ c.make_room.new.self c.make_room.new.env
+    refl _ _ _ (sym c.requires.order) _ c.make_room.new.self c.make_room.new.env
     c.make_room.new.tables failed.makes failed.sound failed.tables.closes failed.tables.entries)
 
 pub returns-clause-makes : goal.returns-clause-makes
 returns-clause-makes g c =
     let made = c.in_ok-make_room.ensures in
     let charged = c.charge.ensures.version in
-    room_compacted _ g.E.Env _ c.args.store.now c.args.env.now c.args.tables.now _ refl _ _
+    room_compacted _ g.E.Env _ c.args.store.now c.args.env.now c.args.tables.now _ refl _ _ _
     (sym c.requires.order) (c.if-not-is_full.ensures.0 refl) c.make_room.new.self
     c.make_room.new.env c.make_room.new.tables made.makes made.sound made.tables.closes
-    made.tables.none_new made.tables.logs made.tables.entries c.compact_if_asked.result
-    c.compact_if_asked.new.self c.compact_if_asked.new.env c.compact_if_asked.new.tables
+    made.tables.none_new made.tables.logs made.tables.entries c.compact_if_asked-2.result
+    c.compact_if_asked-2.new.self c.compact_if_asked-2.new.env c.compact_if_asked-2.new.tables
     (charged_tables _ g.E.Env _ c.make_room.new.self
     c.make_room.new.env c.make_room.new.tables _ made.makes.usable _ c.charge.new.store charged
-    c.compact_if_asked.result c.compact_if_asked.new.self c.compact_if_asked.new.env
-    c.compact_if_asked.new.tables c.compact_if_asked.ensures.compacts)
+    c.compact_if_asked-2.result c.compact_if_asked-2.new.self c.compact_if_asked-2.new.env
+    c.compact_if_asked-2.new.tables c.compact_if_asked-2.ensures.compacts)
     (ap g.C.Cmp.cmp made.makes.rest.cmp ∙ sym c.requires.order)
-    (subst (λ (s : OpenStoreValue g.row.C.Denot). OnOk c.compact_if_asked.result
-    (LogsByScore s.set c.compact_if_asked.new.self.set)) charged
-    c.compact_if_asked.ensures.asked.by_score) c.compact_if_asked.ensures.asked.asks
+    (subst (λ (s : OpenStoreValue g.row.C.Denot). OnOk c.compact_if_asked-2.result
+    (LogsByScore s.set c.compact_if_asked-2.new.self.set)) charged
+    c.compact_if_asked-2.ensures.asked.by_score) c.compact_if_asked-2.ensures.asked.asks
     c.charge.new.store charged
     (subst (λ (s : OpenStoreValue g.row.C.Denot). CompactsOnceAtMost (g.C.Cmp.cmp s.cmp)
     g.E.Env.models_disk c.charge.new.store (g.E.Env.observed c.make_room.new.env)
-    c.compact_if_asked.new.self (g.E.Env.observed c.compact_if_asked.new.env)) charged
-    c.compact_if_asked.ensures.keeps.once)
+    c.compact_if_asked-2.new.self (g.E.Env.observed c.compact_if_asked-2.new.env)) charged
+    c.compact_if_asked-2.ensures.keeps.once)

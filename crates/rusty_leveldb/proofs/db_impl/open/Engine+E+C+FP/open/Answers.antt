@@ -142,7 +142,7 @@ returns-in_default g c = done_opens g.E.Env _ c.args.name.now c.args.options
     (λ modelled. none_open g.E.Env _ c.in-Ok.store.set c.args.options c.in_ok-tables.tables
     c.open.new.env c.args.name.now c.in-Ok.ensures.opens.path c.in_ok-tables.ensures.ok
     c.in_ok-tables.ensures.matches)
-    c.in_default.ensures.ends refl c.new-in-Ok.ensures c.in_ok-lock.ensures.ok
+    c.in_default.ensures.ends refl c.new-in-Ok.ensures refl c.in_ok-lock.ensures.ok
     (record { rest = refl; sink = c.end_opening-ended.ensures.log ∙ ap is_some c.take-log.ensures.value }) c.in-Ok.ensures.cmp
     (λ a b is. ap (format_of g.C.Cmp g.FP.FilterPolicy (compressors g.dyn-2).codings) is.rest) refl
     (c.in_ok-lock-2.ensures.cause.ok ∙ c.in_ok-mkdir.ensures.cause.ok)

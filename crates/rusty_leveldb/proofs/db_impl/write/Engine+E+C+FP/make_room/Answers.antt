@@ -9,6 +9,7 @@ returns g c =
       smallest = c.smallest_held-smallest.result;
       is_smallest = (rw c.last_sequence.ensures at c.smallest_held-smallest.ensures);
       makes = (rw c.cmp-self-inside.ensures at c.room_in-made.ensures.makes);
+      looks = c.room_in-made.ensures.looks;
       rest = (rw c.cmp-self-inside.ensures refl);
       sink = c.room_in-made.ensures.log ∙ ap is_some c.take-log.ensures.value;
       mode = c.mode_by-self-inside.ensures;
