@@ -9,6 +9,9 @@ import shutil
 TOP = pathlib.Path(__file__).resolve().parent.parent
 FLAGS = ["--jobs", "1"]
 OVER = "--over="
+# the line of an edit that names its crate, and the one that leaves it to be tried by hand
+CRATE = re.compile(r"^crate: (\w+)$", re.MULTILINE)
+BY_HAND = re.compile(r"^tried: by hand$", re.MULTILINE)
 # a check's line on a function: its name, its state, and more of it
 STATE = re.compile(r"^fn (\S+): (proved|not proved|no proof)(.*)$", re.MULTILINE)
 # what a proof file says where it names what an edit took away, which tells nothing of a goal
@@ -70,6 +73,33 @@ def read_edits(file):
         elif name and line and not line.startswith("#"):
             edits[name] += line + "\n"
     return edits
+
+
+def gate_edits(by_hand=False):
+    """Returns the gate's must-fail edits by the crates that they are of, or those under must-fail/ that are tried by hand: the lines of each by its
+    name. An edit is of the crate that its line `crate:` names, or else of that whose name its file has. Raises ValueError where a crate has two of
+    one name."""
+    found = {}
+    for file in sorted((TOP / "must-fail").glob("*.edits")):
+        for name, lines in read_edits(file).items():
+            named = CRATE.search(lines)
+            edits = found.setdefault(named[1] if named else file.stem, {})
+            if name in edits:
+                raise ValueError(f"{file}: another edit of its crate has the name {name}")
+            edits[name] = lines
+    chosen = {crate: {it: lines for it, lines in edits.items() if bool(BY_HAND.search(lines)) == by_hand} for crate, edits in found.items()}
+    return {crate: edits for crate, edits in chosen.items() if edits}
+
+
+def edits_by_hand(crate):
+    """Returns the must-fail edits of a crate that are tried by hand, those of tools/edits/CRATE.edits first: the lines of each by its name. Raises
+    ValueError where two have one name."""
+    file, others = TOP / f"tools/edits/{crate}.edits", gate_edits(by_hand=True).get(crate, {})
+    edits = read_edits(file) if file.is_file() else {}
+    twice = sorted(edits.keys() & others.keys())
+    if twice:
+        raise ValueError(f"{file}: an edit under must-fail/ has the name {twice[0]}, too")
+    return edits | others
 
 
 def verdict(name, state, why, lines):

@@ -144,14 +144,19 @@ fn iterate_at(db: &mut Store, snapshot: &Snapshot) -> Result<()> {
     it.seek_to_first()
 }
 
-/// A snapshot that was released, and the value of a after it was refused to an iterator.
+/// A snapshot that was released is refused to an iterator, and one that is held goes on to be read.
 fn refused_at_a_released_snapshot(db: &mut Store) -> Result<bool> {
     db.put(b"a", b"1")?;
+    let held = db.get_snapshot()?;
     let snapshot = db.get_snapshot()?;
     db.release_snapshot(snapshot)?;
     let is_refused = is_not_held(db, &snapshot)?;
     db.put(b"a", b"2")?;
-    Ok(is_refused)
+    let is_held = match db.get_at(&held, b"a")? {
+        None => false,
+        Some(found) => found.as_slice() == b"1".as_slice(),
+    };
+    Ok(is_refused && is_held)
 }
 
 /// A store that refused an iterator goes on, and is found as it was left when it is opened again.

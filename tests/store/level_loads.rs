@@ -95,6 +95,11 @@ fn fullest(alloc: Global, env: &mut MemEnv) -> Result<(u64, usize)> {
     Ok(most)
 }
 
+/// What that may be: to level 1 comes at once what four memtables had, and some more comes meanwhile.
+pub fn most_of(load: Load) -> u64 {
+    125 + 400 * load.buffer as u64 / limit_of(1)
+}
+
 /// The greatest such load after each ten thousand puts.
 pub fn fullest_of(alloc: Global, load: Load) -> Result<(u64, usize)> {
     let mut env = MemEnv::new(alloc);
@@ -124,7 +129,7 @@ pub fn fullest_of(alloc: Global, load: Load) -> Result<(u64, usize)> {
     Ok(most)
 }
 
-/// No level of a small store gets past twice its limit.
+/// No level of a small store gets much past its limit.
 #[test]
 fn of_a_small_store(rt: HostRuntime) -> Result<()> {
     let load = Load {
@@ -134,6 +139,6 @@ fn of_a_small_store(rt: HostRuntime) -> Result<()> {
         buffer: 1 << 18,
     };
     let most = fullest_of(rt.alloc(), load)?;
-    assert!(rt; most.0 > 0 && most.0 <= 200, "{most:?}");
+    assert!(rt; most.0 > 0 && most.0 <= most_of(load), "{most:?}");
     Ok(())
 }

@@ -3,7 +3,7 @@ use super::compactions_due::{crash_in_puts, fail_in_puts};
 use super::compactions_in_openings::{crash_in_openings, fail_in_openings};
 use super::compactions_of_many::try_seeds;
 use super::file_bounds::try_scripts;
-use super::level_loads::{Load, Order, fullest_of};
+use super::level_loads::{Load, Order, fullest_of, most_of};
 use super::merged_inputs::{crash_in_merge, fail_in_merge};
 use super::merging::compare_merges;
 use super::open_tables::damage_each;
@@ -193,19 +193,20 @@ const LOADS: [Load; 9] = [
     },
 ];
 
-/// Levels stay within twice their limits, whatever is put.
+/// No level gets past its limit by more than what comes at once, whatever is put: level 1 may have 2.6 times its limit where values are long, and
+/// has twice its limit at most where they are of a hundred bytes.
 #[test]
 fn levels_of_loads(rt: HostRuntime) -> Result<()> {
     for load in LOADS {
         let most = fullest_of(rt.alloc(), load)?;
         println!(rt; "{load:?}: {most:?}")?;
-        assert!(rt; most.0 <= 200, "{load:?}: {most:?}");
+        assert!(rt; most.0 <= most_of(load), "{load:?}: {most:?}");
+        assert!(rt; load.value > 100 || most.0 <= 200, "{load:?}: {most:?}");
     }
     Ok(())
 }
 
-/// A memtable of 64 MiB becomes a table of as many bytes: level 1 has those of four once they are compacted, and is at its limit again before the
-/// next four are.
+/// The same where four memtables have 25 times the limit of level 1.
 #[test]
 fn levels_of_a_large_memtable(rt: HostRuntime) -> Result<()> {
     let load = Load {
@@ -216,6 +217,6 @@ fn levels_of_a_large_memtable(rt: HostRuntime) -> Result<()> {
     };
     let most = fullest_of(rt.alloc(), load)?;
     println!(rt; "{load:?}: {most:?}")?;
-    assert!(rt; most.0 <= 2600, "{most:?}");
+    assert!(rt; most.0 <= most_of(load), "{most:?}");
     Ok(())
 }

@@ -26,6 +26,8 @@ use support::{Random, ShortReads, damage_file, failed_with};
 struct Never;
 
 impl Cuts for Never {
+    ghost stops_before = { ? };
+
     fn should_stop_before(&mut self, _key: &[u8]) -> bool {
         false
     }

@@ -52,6 +52,8 @@ struct Told<'a> {
 }
 
 impl Cuts for Told<'_> {
+    ghost stops_before = { ? };
+
     fn should_stop_before(&mut self, key: &[u8]) -> bool {
         let put = &self.puts[self.at];
         self.at += 1;

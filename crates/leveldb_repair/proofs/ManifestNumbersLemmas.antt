@@ -31,7 +31,7 @@ use Rattle.leveldb_mem.specs.Log.{End, IsLogFile}
 use Rattle.leveldb_mem.specs.Log.Reader.{HoldsOfRest, StopsReading, at_end, whatever_follows}
 use Rattle.leveldb_version.specs.Edits.VersionEdit.{new_file_of}
 use Rattle.leveldb_version_set.proofs.Sets.RecoverLemmas.{cause_of_error}
-use Rattle.leveldb_version_set.specs.Repairs.Repairing.{IsGreatestInFolder, IsNumberIn, IsNumberInManifest, IsNumberOfName, numbers_in}
+use Rattle.leveldb_version_set.specs.Repairs.Repairing.{IsNumberIn, IsNumberInManifest, IsNumberOfName, numbers_in}
 use Rattle.leveldb_store.proofs.Openings.OpeningFindLemmas.{listed as named, no_slash_in_name}
 use Rattle.leveldb_store.specs.Logs.ReplayLog.{HasCauseOr}
 use Rattle.leveldb_store.specs.Openings.Listing.{AreFilesIn, MatchesName}

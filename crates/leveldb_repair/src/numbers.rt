@@ -1,13 +1,11 @@
 //! The numbers of a store's files: those of names, and those that manifests name.
 // LevelDB: db/repair.cc, Repairer::FindFiles
-ghost use Rattle.std.specs.Prelude.{◌≡◌, ◌↔◌, IfErr, IfOk, IsTrue, MatchOption, fold, map, max};
+ghost use Rattle.std.specs.Prelude.{◌≡◌, IfErr, IfOk, MatchOption, fold, map, max};
 ghost use Rattle.leveldb_base.specs.Error.{IsOutOfMemory};
-ghost use Rattle.leveldb_base.specs.declared.types.FileType.TheVariants.{Descriptor};
-ghost use Rattle.leveldb_env.specs.Env.{File, bytes_of};
 ghost use Rattle.leveldb_files.specs.Edits.Edit.{Edit, IsEdit};
 ghost use Rattle.leveldb_repair.specs.Numbers.{FindsGreatest, IsGreatestNumber, IsNumberInRecords, IsRaised, RaisesToFile};
 ghost use Rattle.leveldb_version.specs.Edits.VersionEdit.{edit_of, new_file_of};
-ghost use Rattle.leveldb_version_set.specs.Repairs.Repairing.{IsNumberIn, numbers_in};
+ghost use Rattle.leveldb_version_set.specs.Repairs.Repairing.{numbers_in};
 
 use crate::folder::path_in;
 use leveldb_base::error::{Result, StatusCode};
@@ -62,31 +60,12 @@ fn raised_to_file<E: Env>(
 ) -> Result<FileNum>
     ensures { RaisesToFile E.Env store.now file.now least env.old result env.new }
 {
-    if !is_manifest(file.kind) {
+    let FileType::Descriptor = file.kind else {
         return Ok(least);
-    }
+    };
     let path = path_in(alloc, store, &file.name)?;
     let text = read_file(alloc, env, &path)?;
-    raised_to_manifest(alloc, &text, least)
-}
-
-// Whether the type is a manifest's.
-fn is_manifest(kind: FileType) -> bool
-    ensures { IsTrue result ↔ (kind ≡ Descriptor) }
-{
-    match kind {
-        FileType::Descriptor => true,
-        _ => false,
-    }
-}
-
-// The greatest of a number and of those that the manifest of these bytes names.
-fn raised_to_manifest(alloc: Global, text: &[u8], least: FileNum) -> Result<FileNum>
-    ensures ok { IfOk result (λ number. (file : File) → bytes_of file ≡ text.now
-        → IsRaised (IsNumberIn file) least number) }
-    ensures memory { IfErr result IsOutOfMemory }
-{
-    let mut source = text;
+    let mut source: &[u8] = &text;
     let (records, _) = read_records(alloc, &mut source, true)?;
     raised_to_records(alloc, records.as_slice(), least)
 }

@@ -71,6 +71,8 @@ impl MergeLevels for EachKey {
 struct NoCuts;
 
 impl Cuts for NoCuts {
+    ghost stops_before = { λ old key told new. told ≡ false };
+
     fn should_stop_before(&mut self, _key: &[u8]) -> bool {
         false
     }

@@ -1,6 +1,7 @@
 -- Compactions of an open store, and the merge that one makes.
 pub mod MergingLemmas
 pub mod MergeLoopLemmas
+pub mod CuttingLemmas
 pub mod BearingLemmas
 mod CompactKeepsLemmas
 mod CompactEditLemmas

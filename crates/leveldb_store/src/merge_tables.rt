@@ -1,9 +1,10 @@
 //! The loop of a compaction: the pairs of a walk go to new tables, but for those whose entries may
 //! go.
 // LevelDB: db/db_impl.cc, DBImpl::DoCompactionWork
-ghost use Rattle.std.specs.Prelude.{◌≡◌, List, ℕ};
+ghost use Rattle.std.specs.Prelude.{◌≡◌, ◌++◌, ◌∷◌, [], Bool, IfOk, List, OnOk, ℕ};
 ghost use Rattle.leveldb_base.specs.Types.{Pair};
 ghost use Rattle.leveldb_store.specs.Tables.BuildTable.{choices_of};
+ghost use Rattle.leveldb_store.specs.Compactions.Cutting.{CutsInto, HasCut};
 ghost use Rattle.leveldb_store.specs.Compactions.Merging.{HasMerged, MergesTables, MovesLeaveFiles, TakesPair, merge_of};
 ghost use Rattle.leveldb_store.specs.Openings.Opening.{GivesNumbers, TakesBackNew};
 ghost use Rattle.leveldb_store.specs.Writing.Switch.{MayGiveNumber};
@@ -24,9 +25,13 @@ use std::alloc::{AllocError, Global};
 
 /// Where tables end, besides past their size.
 pub trait Cuts {
+    // whether it may ask for an end before a key, and what it is then
+    ghost stops_before: { Self → List ℕ → Bool → Self → Type 0 };
+
     /// Whether the open table is to end before this internal key, or before the next one of another
     /// user key. It is asked for each key in turn.
-    fn should_stop_before(&mut self, key: &[u8]) -> bool;
+    fn should_stop_before(&mut self, key: &[u8]) -> bool
+        ensures { stops_before self.old key.now result self.new };
 }
 
 /// What pairs are merged with: the store's folder and options, what is known of user keys, and the
@@ -67,6 +72,16 @@ impl<E: Env, C: UserCmp + Copy + Drop, FP: FilterPolicy + Copy + Drop> Merging<E
             versions.old.set.next_file env.old self.old.passing self.old.outputs
             → TakesPair merge E.Env first read (key.now, value.now) versions.old.set.next_file
             env.old result versions.new.set.next_file env.new self.new.passing self.new.outputs }
+        ensures cuts { let choices = choices_of C.Cmp FP.FilterPolicy
+            ⟦<InternalKeyCmp<C> as Cmp>⟧ ⟦<InternalFilterPolicy<FP> as FilterPolicy>⟧
+            ⟦<CompressorList as Compressors>⟧.codings plan.now.options.now in
+            let merge = merge_of choices plan.now.store.now plan.now.smallest
+            (L.is_base plan.now.levels.now) (L.is_among plan.now.levels.now) in
+            (start : X) (first : ℕ) (read : List Pair) → let Has = HasCut merge E.Env
+            X.stops_before plan.now.options.now.max_file_size start first in
+            Has read versions.old.set.next_file env.old self.old.passing self.old.outputs cut.old
+            → OnOk result (Has (read ++ (key.now, value.now) ∷ []) versions.new.set.next_file
+            env.new self.new.passing self.new.outputs cut.new) }
         ensures numbers { MayGiveNumber versions.old.set versions.new.set }
         ensures version { versions.new.current ≡ versions.old.current }
     {
@@ -97,9 +112,9 @@ impl<E: Env, C: UserCmp + Copy + Drop, FP: FilterPolicy + Copy + Drop> Merging<E
 
 /// Merges the pairs of a walk over internal keys into new tables: each pair whose entry stays is in
 /// one of them, as it was, and the tables are cut between user keys, past the options'
-/// `max_file_size` or where `cut` says so. `Corruption` where a key has no tag, isn't after the one
-/// before it, or is in no input's range, whatever the walk reads. After an Err some of the tables
-/// may be there, which nothing names.
+/// `max_file_size` or where `cut` asks for it, which it may before each pair. `Corruption` where a
+/// key has no tag, isn't after the one before it, or is in no input's range, whatever the walk
+/// reads. After an Err some of the tables may be there, which nothing names.
 pub fn merge_tables<
     E: Env,
     T,
@@ -124,6 +139,15 @@ pub fn merge_tables<
         MovesLeaveFiles E.Env W.Walk
         → MergesTables merge E.Env versions.old.set.next_file W.Walk (λ files. files.items)
         (env.old, tables.old) walk.old result versions.new.set.next_file (env.new, tables.new) }
+    ensures cuts { let choices = choices_of C.Cmp FP.FilterPolicy
+        ⟦<InternalKeyCmp<C> as Cmp>⟧ ⟦<InternalFilterPolicy<FP> as FilterPolicy>⟧
+        ⟦<CompressorList as Compressors>⟧.codings plan.now.options.now in
+        let merge = merge_of choices plan.now.store.now plan.now.smallest
+        (L.is_base plan.now.levels.now) (L.is_among plan.now.levels.now) in
+        MovesLeaveFiles E.Env W.Walk
+        → IfOk result (λ files. CutsInto merge E.Env X.stops_before
+        plan.now.options.now.max_file_size cut.old versions.old.set.next_file W.Walk
+        (env.old, tables.old) walk.old versions.new.set.next_file files.items env.new cut.new) }
     ensures numbers { GivesNumbers versions.old.set versions.new.set }
     ensures back { TakesBackNew versions.old.set versions.new.set }
     ensures version { versions.new.current ≡ versions.old.current }

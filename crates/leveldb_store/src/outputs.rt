@@ -1,16 +1,14 @@
 //! Tables that pairs go to, one after another.
 // LevelDB: db/db_impl.cc, DBImpl::OpenCompactionOutputFile and FinishCompactionOutputFile
-ghost use Rattle.std.specs.Prelude.{◌≡◌, ◌<◌, ◌≤◌, ◌↔◌, ◌&&◌, ◌||◌, ◌∷◌, [], List, ℕ, None, false, IfSome, IsTrue, OnOk, is_some, length, true, vec_capacity, vec_len};
+ghost use Rattle.std.specs.Prelude.{◌≡◌, ◌<◌, ◌≤◌, ◌↔◌, ◌&&◌, ◌||◌, List, ℕ, None, false, IfSome, IsTrue, OnOk, is_some, length, true, vec_capacity, vec_len};
 ghost use Rattle.std.specs.declared.cmp.Ordering.TheVariants.{Less};
 ghost use Rattle.std.specs.Str.{bytes_eq};
 ghost use Rattle.leveldb_base.specs.KeyTypes.{user_part};
 ghost use Rattle.leveldb_base.specs.Types.{Pair};
 ghost use Rattle.leveldb_table.specs.TableBuilder.{last_of, order_of};
 ghost use Rattle.leveldb_store.specs.Tables.BuildTable.{choices_of};
-ghost use Rattle.leveldb_store.specs.Tables.Outputs.{AddsPair, AreCutBefore, AreTables, ChangesNewTables, FinishesOpen, HaveOutputs, IsBeginFault, PutsPair, is_due, no_outputs};
+ghost use Rattle.leveldb_store.specs.Tables.Outputs.{AddsPair, BeginsTable, FinishesOpen, HaveOutputs, PutsPair, is_due, no_outputs};
 ghost use Rattle.leveldb_store.specs.Writing.Switch.{MayGiveNumber};
-ghost use Rattle.leveldb_store.specs.Tables.TableFile.{FailsToWrite};
-ghost use Rattle.leveldb_store.specs.Tables.TableParts.{WritesParts};
 
 use crate::table_file::{TableFile, copied_key, new_builder};
 use leveldb_base::cmp::{Cmp, InternalKeyCmp, UserCmp};
@@ -205,23 +203,8 @@ impl<E: Env, C: UserCmp + Copy + Drop, FP: FilterPolicy + Copy + Drop> Outputs<E
         ensures begins { let choices = choices_of C.Cmp FP.FilterPolicy
             ⟦<InternalKeyCmp<C> as Cmp>⟧ ⟦<InternalFilterPolicy<FP> as FilterPolicy>⟧
             ⟦<CompressorList as Compressors>⟧.codings options.now in
-            (first : ℕ) (tables : List (List Pair)) → AreTables choices E.Env store.now first
-            versions.old.set.next_file env.old self.old.done tables
-            → AreCutBefore ((key.now, value.now) ∷ []) tables
-            → OnOk result (HaveOutputs choices E.Env store.now first versions.new.set.next_file
-            env.new self.new tables ((key.now, value.now) ∷ [])) }
-        ensures ends { OnOk result (self.new.ends ≡ false) }
-        ensures changes { ChangesNewTables E.Env store.now versions.old.set.next_file
-            versions.new.set.next_file env.old env.new }
-        ensures parts { let choices = choices_of C.Cmp FP.FilterPolicy
-            ⟦<InternalKeyCmp<C> as Cmp>⟧ ⟦<InternalFilterPolicy<FP> as FilterPolicy>⟧
-            ⟦<CompressorList as Compressors>⟧.codings options.now in
-            WritesParts choices E.Env ((key.now, value.now) ∷ []) env.old env.new }
-        ensures cause { let choices = choices_of C.Cmp FP.FilterPolicy
-            ⟦<InternalKeyCmp<C> as Cmp>⟧ ⟦<InternalFilterPolicy<FP> as FilterPolicy>⟧
-            ⟦<CompressorList as Compressors>⟧.codings options.now in
-            FailsToWrite (IsBeginFault choices (key.now, value.now) versions.new.set.next_file)
-            (E.failures env.old) (E.failures env.new) result }
+            BeginsTable choices E.Env store.now self.old.done (key.now, value.now)
+            versions.old.set.next_file env.old result versions.new.set.next_file env.new self.new }
         ensures numbers { MayGiveNumber versions.old.set versions.new.set }
         ensures version { versions.new.current ≡ versions.old.current }
     {

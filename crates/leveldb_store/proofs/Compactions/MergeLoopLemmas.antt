@@ -119,7 +119,7 @@ module _ {C FP : Type 0} {order : CmpGhosts C} {filters : FilterGhosts FP}
     last = is.last;
   }
 
-  have_still : {first next : ℕ} {outputs : OutputsValue E C FP F} {tables : List (List Pair)}
+  pub have_still : {first next : ℕ} {outputs : OutputsValue E C FP F} {tables : List (List Pair)}
       {pairs : List Pair} → HaveOutputs choices env store first next from outputs tables pairs
       → HaveOutputs choices env store first next to outputs tables pairs
   have_still {outputs = outputs} {tables} {pairs} have = record {
@@ -129,7 +129,7 @@ module _ {C FP : Type 0} {order : CmpGhosts C} {filters : FilterGhosts FP}
     cut = have.cut;
   }
 
-pub merged_still : {C FP : Type 0} {order : CmpGhosts C} {filters : FilterGhosts FP}
+unfoldable pub merged_still : {C FP : Type 0} {order : CmpGhosts C} {filters : FilterGhosts FP}
     (merge : Merge order filters) {E F : Type 0} (env : EnvGhosts E F) {from to : E}
     → LeavesFiles env from to → {first next : ℕ} {read : List Pair} {passing : Passing}
     {outputs : OutputsValue E C FP F}

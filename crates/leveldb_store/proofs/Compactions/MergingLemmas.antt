@@ -196,7 +196,7 @@ entries_filtered test (pair ∷ pairs) =
     by true rest = ap (λ es. entry_of_pair pair ∷ es) rest
     by false rest = rest
 
-entries_left : (smallest : ℕ) (is_base : List ℕ → Bool) (pairs : List Pair)
+pub entries_left : (smallest : ℕ) (is_base : List ℕ → Bool) (pairs : List Pair)
     → entries_of_pairs (pairs_left smallest is_base pairs)
     ≡ thinned smallest is_base (entries_of_pairs pairs)
 entries_left smallest is_base pairs = entries_filtered
@@ -291,7 +291,7 @@ module _ (cmp : List ℕ → List ℕ → Ordering) (exact : IsExactOrder cmp) w
       (sequence_part pair.0) less)
 
   -- the last of those that are left is before one that rises
-  rises_to : (front : List Pair) (pair : Pair) → AreRising (internal_cmp cmp) (front ++ pair ∷ [])
+  pub rises_to : (front : List Pair) (pair : Pair) → AreRising (internal_cmp cmp) (front ++ pair ∷ [])
       → (other : Pair) → Contains front other → internal_cmp cmp other.0 pair.0 ≡ Less
   rises_to [] pair rising other there = absurd (in_none other there)
   rises_to (first ∷ front) pair rising other there = ⊎_elim
@@ -348,7 +348,7 @@ module _ {C FP : Type 0} {order : CmpGhosts C} {filters : FilterGhosts FP}
     (cmp_is : order.cmp merge.choices.cmp ≡ internal_cmp merge.choices.format.order) {first : ℕ}
   where
     -- before the first pair
-    pub merged_none : (at : E) {passing : Passing} → IsJustBefore passing None
+    unfoldable pub merged_none : (at : E) {passing : Passing} → IsJustBefore passing None
         → HasMerged merge env first [] first at passing no_outputs
     merged_none at just = record {
       are_read = in_place_none;
@@ -447,19 +447,19 @@ module _ {C FP : Type 0} {order : CmpGhosts C} {filters : FilterGhosts FP}
         never_unfit (inl short) = untagged short are
         never_unfit (inr unfit) = unfit (follows_open outputs.unfinished refl)
 
-        pushed_left : pairs_left merge.smallest merge.is_base (read ++ pair ∷ [])
+        pub pushed_left : pairs_left merge.smallest merge.is_base (read ++ pair ∷ [])
             ≡ pairs_left merge.smallest merge.is_base read
             ++ left_one merge.smallest merge.is_base (last_entry None read) pair
         pushed_left = left_pushed merge.choices.format.order exact merge.smallest merge.is_base read
             pair merged.are_read.rising are.rising
 
-        pushed_passed : (new : Passing) → IsJustBefore new (Some (entry_of_pair pair))
+        pub pushed_passed : (new : Passing) → IsJustBefore new (Some (entry_of_pair pair))
             → IsJustBefore new (last_entry None (read ++ pair ∷ []))
         pushed_passed new just =
             subst (IsJustBefore new) (sym (last_entry_pushed None read pair)) just
 
         -- its entry goes
-        pub taken_gone : {left : Passing} {now : OutputsValue E C FP F}
+        unfoldable pub taken_gone : {left : Passing} {now : OutputsValue E C FP F}
             (result : Result (Unit {0}) Status)
             → (now.unfinished ≡ outputs.unfinished) × (now.done ≡ outputs.done)
             → goes_after merge.smallest merge.is_base (last_entry None read) (entry_of_pair pair)
@@ -492,7 +492,7 @@ module _ {C FP : Type 0} {order : CmpGhosts C} {filters : FilterGhosts FP}
         }
 
         -- the open table's pairs and this one were read
-        put_read : (put : Pair) → Contains (merged.pairs ++ pair ∷ []) put
+        pub put_read : (put : Pair) → Contains (merged.pairs ++ pair ∷ []) put
             → Contains (read ++ pair ∷ []) put
         put_read put there = ⊎_elim
             (λ were. Contains-append_left read (pair ∷ []) put (open_read merged put were))
@@ -516,7 +516,7 @@ module _ {C FP : Type 0} {order : CmpGhosts C} {filters : FilterGhosts FP}
         }
 
         -- it is put
-        pub taken_put : {told now : OutputsValue E C FP F} {limit later : ℕ} {to : E}
+        unfoldable pub taken_put : {told now : OutputsValue E C FP F} {limit later : ℕ} {to : E}
             {left : Passing} {u : Unit {0}} (result : Result (Unit {0}) Status)
             → goes_after merge.smallest merge.is_base (last_entry None read) (entry_of_pair pair)
             ≡ false
@@ -552,7 +552,7 @@ module _ {C FP : Type 0} {order : CmpGhosts C} {filters : FilterGhosts FP}
         }
 
     -- the last table is finished
-    pub merged_all : {read : List Pair} {next : ℕ} {from to : E} {passing : Passing}
+    unfoldable pub merged_all : {read : List Pair} {next : ℕ} {from to : E} {passing : Passing}
         {outputs : OutputsValue E C FP F}
         (merged : HasMerged merge env first read next from passing outputs)
         {files : List FileMetaData}

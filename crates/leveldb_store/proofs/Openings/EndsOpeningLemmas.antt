@@ -1,6 +1,6 @@
 -- The end of an opening: what its steps keep together, and why it breaks the store.
 use Rattle.std.specs.Prelude.{IsTrue, OnErr, OnOk}
-use Rattle.std.proofs.Common.{◌≡◌, ◌∙◌, ◌⊎◌, ◌-◌, ◌^◌, ◌≤◌, ◌<◌, inl, inr, ⊎_elim, ℕ, Bool, List, Ok, Err, Result, ap, arith, refl, subst, sym}
+use Rattle.std.proofs.Common.{◌≡◌, ◌∙◌, ◌⊎◌, ◌≤◌, ◌<◌, inl, inr, ⊎_elim, ℕ, Bool, List, Ok, Err, Result, ap, arith, refl, subst, sym}
 use Rattle.std.proofs.lemmas.Bool.{cases_lt}
 use Rattle.std.specs.declared.cmp.Ordering.{Ordering}
 use Rattle.leveldb_base.specs.declared.cmp.Cmp.{Ghosts as CmpGhosts}

@@ -1,6 +1,6 @@
 -- A store that was recovered is opened: its logs are replayed, the log to write is opened, and an
 -- edit is logged where one is wanted.
-use Rattle.std.specs.Prelude.{◌≢◌, All, Contains, IfSome, IsTrue, OnOk, Result, Ok, Err, max, IsSome, fold}
+use Rattle.std.specs.Prelude.{◌≢◌, All, Contains, IfSome, IsTrue, OnOk, Result, Ok, Err, max, fold}
 use Rattle.std.specs.Option.{option_map}
 use Rattle.std.proofs.Common.{◌||◌, ◌≡◌, ◌⊎◌, ◌∙◌, ◌<◌, ◌≤◌, ◌^◌, inl, inr, ⊎_elim, ℕ, Bool, true, false, List, Option, None, Some, ap, arith, refl, subst, sym}
 use Rattle.std.proofs.lemmas.List.Elements.{All-contains, All-contains_itself, All-weaker}

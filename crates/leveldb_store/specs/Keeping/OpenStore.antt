@@ -1,5 +1,5 @@
 -- A store that is open: what is in memory of it.
-use Rattle.std.specs.Prelude.{◌≡◌, ◌≢◌, ◌<◌, ◌^◌, ℕ, Bool, List, Option, false, All, IsPermutation, IsTrue, map}
+use Rattle.std.specs.Prelude.{◌≡◌, ◌≢◌, ◌<◌, ℕ, Bool, List, Option, false, All, IsTrue, map}
 use Rattle.std.specs.List.{IsDistinct}
 use Rattle.std.specs.declared.cmp.Ordering.{Ordering}
 use Rattle.leveldb_base.specs.declared.types.FileType.TheVariants.{Descriptor}
@@ -8,7 +8,7 @@ use Rattle.leveldb_mem.specs.MemTable.{Kept}
 use Rattle.leveldb_files.specs.Stores.Paths.{IsFilePath}
 use Rattle.leveldb_version_set.specs.Compactions.Inputs.{AreOrdered}
 use Rattle.leveldb_version.specs.Versions.Search.{AreDisjointLevels}
-use Rattle.leveldb_version.specs.Versions.Version.{AreInVersionOrder, VersionValue, new_files_of}
+use Rattle.leveldb_version.specs.Versions.Version.{VersionValue}
 use Rattle.leveldb_files.specs.Edits.Edit.{NewFile}
 use Rattle.leveldb_files.specs.Edits.VersionSet.{is_same_file, level_file}
 use Rattle.leveldb_version_set.specs.Sets.VersionSetValue.{OpenManifest, VersionSetValue, broken, in_use}

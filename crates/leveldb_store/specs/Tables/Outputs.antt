@@ -193,6 +193,24 @@ module _ {C FP : Type 0} {order : CmpGhosts C} {filters : FilterGhosts FP}
 -- ---- calls
 
 module _ {C FP : Type 0} {order : CmpGhosts C} {filters : FilterGhosts FP}
+    (choices : TableChoices order filters) {E F : Type 0} (env : EnvGhosts E F)
+    (store : List ℕ) where
+  -- what beginning a table with a pair leaves of outputs that have these files and no open table
+  pub record BeginsTable (done : List FileMetaData) (pair : Pair) (next : ℕ) (from : E)
+      (result : Result (Unit {0}) Status) (later : ℕ) (to : E) (new : OutputsValue E C FP F)
+      : Type 0 where
+    pub ok : (first : ℕ) (tables : List (List Pair))
+        → AreTables choices env store first next from done tables
+        → AreCutBefore (pair ∷ []) tables
+        → OnOk result (HaveOutputs choices env store first later to new tables (pair ∷ []))
+    -- it isn't to end before it was told to
+    pub ends : OnOk result (new.ends ≡ false)
+    pub changes : ChangesNewTables env store next later from to
+    pub parts : WritesParts choices env (pair ∷ []) from to
+    pub cause : FailsToWrite (IsBeginFault choices pair later) (env.failures from)
+        (env.failures to) result
+
+module _ {C FP : Type 0} {order : CmpGhosts C} {filters : FilterGhosts FP}
     (choices : TableChoices order filters) {E F : Type 0} (env : EnvGhosts E F) (store : List ℕ)
     (first : ℕ) (tables : List (List Pair)) (pairs : List Pair) where
   -- What putting a pair leaves of outputs that have these pairs: it is in the open table, or that

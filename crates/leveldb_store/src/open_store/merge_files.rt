@@ -7,6 +7,8 @@ ghost use Rattle.leveldb_base.specs.KeyTypes.{user_part};
 ghost use Rattle.leveldb_env.specs.Env.{AreBytes};
 ghost use Rattle.leveldb_version.specs.Versions.DeeperLevels.{is_base_level_for};
 ghost use Rattle.leveldb_version_set.specs.Compactions.Contradictions.{is_among_inputs};
+ghost use Rattle.leveldb_version_set.specs.Compactions.Cut.{PassesFiles};
+ghost use Rattle.leveldb_files.specs.Levels.Summary.{files_of_level};
 ghost use Rattle.leveldb_files.specs.Stores.Format.{format_of};
 ghost use Rattle.leveldb_version_set.specs.Compactions.Picking.{IsCompactionOf};
 ghost use Rattle.leveldb_version.specs.Tables.TableCache.{options_by, table_options};
@@ -211,6 +213,11 @@ struct InputCuts<'c, C: UserCmp + Copy + Drop> {
 }
 
 impl<'c, C: UserCmp + Copy + Drop> Cuts for InputCuts<'c, C> {
+    ghost stops_before = { λ old key told new. let it = old.compaction.now in
+        PassesFiles (C.cmp it.version.cmp)
+        (files_of_level (it.level + 2) (new_files_of it.version)) it.max_file_size key old.cut told
+        new.cut × (new.compaction ≡ old.compaction) };
+
     fn should_stop_before(&mut self, key: &[u8]) -> bool {
         self.cut.stops_before(self.compaction, key)
     }

@@ -5,6 +5,7 @@ use Rattle.leveldb_env.specs.contracts.filter.internal.InternalFilterPolicyFilte
 use Rattle.leveldb_store.specs.Tables.BuildTable.{choices_of}
 use Rattle.leveldb_store.specs.Compactions.Merging.{MovesLeaveFiles, merge_of}
 use Rattle.leveldb_store.specs.Openings.Opening.{GivesNumbers, TakesBackNew}
+use Rattle.leveldb_store.proofs.Compactions.CuttingLemmas.{CutSoFar}
 use Rattle.leveldb_store.proofs.Compactions.MergeLoopLemmas.{MergesSoFar}
 use Rattle.leveldb_store.proofs.merge_tables.merge_tables.Given as goal
 
@@ -19,6 +20,9 @@ invariant-loop g l =
       version : l.versions.current ≡ l.fn.versions.current;
       so_far : MovesLeaveFiles g.E.Env g.W.Walk
           → MergesSoFar merge g.E.Env g.W.Walk l.fn.versions.set.next_file (l.fn.env, l.fn.tables) l.fn.walk l.versions.set.next_file (l.env, l.tables) l.walk l.merging.passing l.merging.outputs;
+      cut_so_far : MovesLeaveFiles g.E.Env g.W.Walk
+          → CutSoFar merge g.E.Env g.X.Cuts.stops_before l.plan.options.now.max_file_size l.fn.cut l.fn.versions.set.next_file g.W.Walk (l.fn.env, l.fn.tables) l.fn.walk
+          l.versions.set.next_file (l.env, l.tables) l.walk l.merging.passing l.merging.outputs l.cut;
     }
 
 abbrev pub decreases-loop : goal.decreases-loop

@@ -23,11 +23,13 @@ returns-in_err-reserve g c =
     let exit = c.from_residual in
     let choices = choices_of g.C.Cmp g.FP.FilterPolicy (key_cmp g.row.C g.C.UserCmp g.C.UserCmp-dict g.C.Cmp g.C.Cmp-dict) (key_policy g.row.FP g.FP.FilterPolicy g.FP.FilterPolicy-dict) (compressors g.dyn-2).codings c.args.options.now in
     record {
-      begins = λ first tables are cut. IfOk-from_err exit.result _ exit.ensures.0;
-      ends = IfOk-from_err exit.result _ exit.ensures.0;
-      changes = new-none g.E.Env c.args.store.now _ c.args.env.now;
-      parts = parts_none choices g.E.Env ((c.args.key.now, c.args.value.now) ∷ []) c.args.env.now;
-      cause = at_error_with (FailsToWrite _ _ _) exit.result exit.ensures.1 (λ status memory. own_fails refl (inl memory));
+      begins = record {
+        ok = λ first tables are cut. IfOk-from_err exit.result _ exit.ensures.0;
+        ends = IfOk-from_err exit.result _ exit.ensures.0;
+        changes = new-none g.E.Env c.args.store.now _ c.args.env.now;
+        parts = parts_none choices g.E.Env ((c.args.key.now, c.args.value.now) ∷ []) c.args.env.now;
+        cause = at_error_with (FailsToWrite _ _ _) exit.result exit.ensures.1 (λ status memory. own_fails refl (inl memory));
+      };
       numbers = inl refl;
       version = refl;
     }
@@ -37,11 +39,13 @@ returns-in_err-smallest g c =
     let exit = c.from_residual-in_err-smallest in
     let choices = choices_of g.C.Cmp g.FP.FilterPolicy (key_cmp g.row.C g.C.UserCmp g.C.UserCmp-dict g.C.Cmp g.C.Cmp-dict) (key_policy g.row.FP g.FP.FilterPolicy g.FP.FilterPolicy-dict) (compressors g.dyn-2).codings c.args.options.now in
     record {
-      begins = λ first tables are cut. IfOk-from_err exit.result _ exit.ensures.0;
-      ends = IfOk-from_err exit.result _ exit.ensures.0;
-      changes = new-none g.E.Env c.args.store.now _ c.args.env.now;
-      parts = parts_none choices g.E.Env ((c.args.key.now, c.args.value.now) ∷ []) c.args.env.now;
-      cause = at_error (FailsToWrite _ _ _) exit.result exit.ensures.1 (own_fails refl (inl c.in_err-smallest.ensures.memory));
+      begins = record {
+        ok = λ first tables are cut. IfOk-from_err exit.result _ exit.ensures.0;
+        ends = IfOk-from_err exit.result _ exit.ensures.0;
+        changes = new-none g.E.Env c.args.store.now _ c.args.env.now;
+        parts = parts_none choices g.E.Env ((c.args.key.now, c.args.value.now) ∷ []) c.args.env.now;
+        cause = at_error (FailsToWrite _ _ _) exit.result exit.ensures.1 (own_fails refl (inl c.in_err-smallest.ensures.memory));
+      };
       numbers = inl refl;
       version = refl;
     }
@@ -52,12 +56,14 @@ returns-in_err-number g c =
     let same = c.in_err-number.ensures.err in
     let choices = choices_of g.C.Cmp g.FP.FilterPolicy (key_cmp g.row.C g.C.UserCmp g.C.UserCmp-dict g.C.Cmp g.C.Cmp-dict) (key_policy g.row.FP g.FP.FilterPolicy g.FP.FilterPolicy-dict) (compressors g.dyn-2).codings c.args.options.now in
     record {
-      begins = λ first tables are cut. IfOk-from_err exit.result _ exit.ensures.0;
-      ends = IfOk-from_err exit.result _ exit.ensures.0;
-      changes = new-none g.E.Env c.args.store.now _ c.args.env.now;
-      parts = parts_none choices g.E.Env ((c.args.key.now, c.args.value.now) ∷ []) c.args.env.now;
-      cause = at_error (FailsToWrite _ _ _) exit.result exit.ensures.1
-          (own_fails refl (inr (inr (subst (λ v. AreFileNumbersUsedUp v.set.next_file c.in_err-number.field-0.0) (sym same) c.in_err-number.ensures.cause), refl)));
+      begins = record {
+        ok = λ first tables are cut. IfOk-from_err exit.result _ exit.ensures.0;
+        ends = IfOk-from_err exit.result _ exit.ensures.0;
+        changes = new-none g.E.Env c.args.store.now _ c.args.env.now;
+        parts = parts_none choices g.E.Env ((c.args.key.now, c.args.value.now) ∷ []) c.args.env.now;
+        cause = at_error (FailsToWrite _ _ _) exit.result exit.ensures.1
+            (own_fails refl (inr (inr (subst (λ v. AreFileNumbersUsedUp v.set.next_file c.in_err-number.field-0.0) (sym same) c.in_err-number.ensures.cause), refl)));
+      };
       numbers = inl (ap (λ v. v.set) same);
       version = ap (λ v. v.current) same;
     }
@@ -68,11 +74,13 @@ returns-in_err-path g c =
     let given = c.in_ok-number.ensures.ok in
     let choices = choices_of g.C.Cmp g.FP.FilterPolicy (key_cmp g.row.C g.C.UserCmp g.C.UserCmp-dict g.C.Cmp g.C.Cmp-dict) (key_policy g.row.FP g.FP.FilterPolicy g.FP.FilterPolicy-dict) (compressors g.dyn-2).codings c.args.options.now in
     record {
-      begins = λ first tables are cut. IfOk-from_err exit.result _ exit.ensures.0;
-      ends = IfOk-from_err exit.result _ exit.ensures.0;
-      changes = new-none g.E.Env c.args.store.now _ c.args.env.now;
-      parts = parts_none choices g.E.Env ((c.args.key.now, c.args.value.now) ∷ []) c.args.env.now;
-      cause = at_error (FailsToWrite _ _ _) exit.result exit.ensures.1 (own_fails refl (inl c.in_err-path.ensures.cause));
+      begins = record {
+        ok = λ first tables are cut. IfOk-from_err exit.result _ exit.ensures.0;
+        ends = IfOk-from_err exit.result _ exit.ensures.0;
+        changes = new-none g.E.Env c.args.store.now _ c.args.env.now;
+        parts = parts_none choices g.E.Env ((c.args.key.now, c.args.value.now) ∷ []) c.args.env.now;
+        cause = at_error (FailsToWrite _ _ _) exit.result exit.ensures.1 (own_fails refl (inl c.in_err-path.ensures.cause));
+      };
       numbers = inr (ap (λ v. v.set) given);
       version = ap (λ v. v.current) given;
     }
@@ -86,11 +94,13 @@ returns-in_err-table g c =
     let o = c.create.ensures in
     let choices = choices_of g.C.Cmp g.FP.FilterPolicy (key_cmp g.row.C g.C.UserCmp g.C.UserCmp-dict g.C.Cmp g.C.Cmp-dict) (key_policy g.row.FP g.FP.FilterPolicy g.FP.FilterPolicy-dict) (compressors g.dyn-2).codings c.args.options.now in
     record {
-      begins = λ first tables are cut. IfOk-from_err exit.result _ exit.ensures.0;
-      ends = IfOk-from_err exit.result _ exit.ensures.0;
-      changes = uncreated_changes g.E.Env c.args.store.now o.does o.locks o.cause.later (c.deref.ensures ∙ c.in_ok-path.ensures.ok) number_is (omega (arith, number_is, c.in_ok-number.ensures.fits)) (ap (λ v. v.set.next_file) given);
-      parts = created_parts choices g.E.Env ((c.args.key.now, c.args.value.now) ∷ []) _ c.new_builder-core.ensures o.does;
-      cause = at_error (FailsToWrite _ _ _) exit.result exit.ensures.1 (device_fails (λ memory. memory) (λ memory. memory) (cause_refused c.in_err-table.ensures.cause));
+      begins = record {
+        ok = λ first tables are cut. IfOk-from_err exit.result _ exit.ensures.0;
+        ends = IfOk-from_err exit.result _ exit.ensures.0;
+        changes = uncreated_changes g.E.Env c.args.store.now o.does o.locks o.cause.later (c.deref.ensures ∙ c.in_ok-path.ensures.ok) number_is (omega (arith, number_is, c.in_ok-number.ensures.fits)) (ap (λ v. v.set.next_file) given);
+        parts = created_parts choices g.E.Env ((c.args.key.now, c.args.value.now) ∷ []) _ c.new_builder-core.ensures o.does;
+        cause = at_error (FailsToWrite _ _ _) exit.result exit.ensures.1 (device_fails (λ memory. memory) (λ memory. memory) (cause_refused c.in_err-table.ensures.cause));
+      };
       numbers = inr (ap (λ v. v.set) given);
       version = ap (λ v. v.current) given;
     }
@@ -108,19 +118,21 @@ returns-in_err-add g c =
     let new = c.new_builder-core.ensures in
     let choices = choices_of g.C.Cmp g.FP.FilterPolicy (key_cmp g.row.C g.C.UserCmp g.C.UserCmp-dict g.C.Cmp g.C.Cmp-dict) (key_policy g.row.FP g.FP.FilterPolicy g.FP.FilterPolicy-dict) (compressors g.dyn-2).codings c.args.options.now in
     record {
-      begins = λ first tables are cut. IfOk-from_err exit.result _ exit.ensures.0;
-      ends = IfOk-from_err exit.result _ exit.ensures.0;
-      changes = none_changes g.E.Env c.args.store.now o.does o.locks o.cause o.file path_is number_is fits next c.in_err-add.ensures.err;
-      parts = begun_left choices g.E.Env (c.args.key.now, c.args.value.now) new o.is.1 o.does o.file c.in_err-add.ensures.left (created_stops g.E.Env o.does o.file c.in_err-add.ensures.err).changes;
-      cause = at_error (FailsToWrite _ _ _) exit.result exit.ensures.1 (none_cause g.E.Env c.args.store.now o.does o.locks o.cause o.file path_is number_is fits next
-          (λ own. inl (not_begun choices g.E.Env c.args.store.now (c.args.key.now, c.args.value.now) new o.is.1 own)) c.in_err-add.ensures.err);
+      begins = record {
+        ok = λ first tables are cut. IfOk-from_err exit.result _ exit.ensures.0;
+        ends = IfOk-from_err exit.result _ exit.ensures.0;
+        changes = none_changes g.E.Env c.args.store.now o.does o.locks o.cause o.file path_is number_is fits next c.in_err-add.ensures.err;
+        parts = begun_left choices g.E.Env (c.args.key.now, c.args.value.now) new o.is.1 o.does o.file c.in_err-add.ensures.left (created_stops g.E.Env o.does o.file c.in_err-add.ensures.err).changes;
+        cause = at_error (FailsToWrite _ _ _) exit.result exit.ensures.1 (none_cause g.E.Env c.args.store.now o.does o.locks o.cause o.file path_is number_is fits next
+            (λ own. inl (not_begun choices g.E.Env c.args.store.now (c.args.key.now, c.args.value.now) new o.is.1 own)) c.in_err-add.ensures.err);
+      };
       numbers = inr (ap (λ v. v.set) given);
       version = ap (λ v. v.current) given;
     }
 
 -- it is added
 pub returns-clause-begins : goal.returns-clause-begins
-returns-clause-begins g c = λ first tables are cut.
+returns-clause-begins g c =
     let o = c.in_ok-table.ensures in
     let number_is = c.in_ok-number.ensures.number in
     let path_is = c.deref.ensures ∙ c.in_ok-path.ensures.ok in
@@ -129,28 +141,21 @@ returns-clause-begins g c = λ first tables are cut.
     let new = c.new_builder-core.ensures in
     let adds = c.in_ok-add.ensures.ok in
     let same = c.add.ensures.same in
-    outputs_begun choices g.E.Env c.args.store.now refl (c.reserve.ensures.items ∙ ap (λ v. v.done) c.self.view_is) are cut number_is (ap (λ v. v.set.next_file) c.in_ok-number.ensures.ok) fits (same.0 ∙ o.is.0)
-    (subst (λ p. ChangesOneFile g.E.Env p c.args.env.now c.add.new.env) path_is (first_added g.E.Env c.args.store.now o.does o.locks o.cause o.file path_is number_is fits (ap (λ v. v.set.next_file) c.in_ok-number.ensures.ok) adds.longer))
-    (table_begun choices g.E.Env c.args.store.now (c.args.key.now, c.args.value.now) new o.is.1 o.is.0 (o.is.2 ∙ c.in_ok-smallest.ensures.ok) fits (opened_is g.E.Env o.does o.file) (λ modelled. o.file modelled ∙ path_is)
-    c.in_ok-smallest.ensures.bytes adds c.add.ensures.choices same.0 same.1)
-
-pub returns-clause-changes : goal.returns-clause-changes
-returns-clause-changes g c =
-    let o = c.in_ok-table.ensures in
-    let number_is = c.in_ok-number.ensures.number in
-    first_changes g.E.Env c.args.store.now o.does o.locks o.cause o.file (c.deref.ensures ∙ c.in_ok-path.ensures.ok) number_is (omega (arith, number_is, c.in_ok-number.ensures.fits)) (ap (λ v. v.set.next_file) c.in_ok-number.ensures.ok) c.in_ok-add.ensures.ok.longer
-
-pub returns-clause-cause : goal.returns-clause-cause
-returns-clause-cause g c = all_written (c.in_ok-add.ensures.ok.longer.counted ∙ c.in_ok-table.ensures.cause.ok)
+    let next = ap (λ v. v.set.next_file) c.in_ok-number.ensures.ok in
+    record {
+      ok = λ first tables are cut.
+          outputs_begun choices g.E.Env c.args.store.now refl (c.reserve.ensures.items ∙ ap (λ v. v.done) c.self.view_is) are cut number_is next fits (same.0 ∙ o.is.0)
+          (subst (λ p. ChangesOneFile g.E.Env p c.args.env.now c.add.new.env) path_is (first_added g.E.Env c.args.store.now o.does o.locks o.cause o.file path_is number_is fits next adds.longer))
+          (table_begun choices g.E.Env c.args.store.now (c.args.key.now, c.args.value.now) new o.is.1 o.is.0 (o.is.2 ∙ c.in_ok-smallest.ensures.ok) fits (opened_is g.E.Env o.does o.file) (λ modelled. o.file modelled ∙ path_is)
+          c.in_ok-smallest.ensures.bytes adds c.add.ensures.choices same.0 same.1);
+      ends = refl;
+      changes = first_changes g.E.Env c.args.store.now o.does o.locks o.cause o.file path_is number_is fits next adds.longer;
+      parts = begun_added choices g.E.Env (c.args.key.now, c.args.value.now) new o.is.1 o.does o.file adds c.add.ensures.choices;
+      cause = all_written (adds.longer.counted ∙ o.cause.ok);
+    }
 
 pub returns-clause-numbers : goal.returns-clause-numbers
 returns-clause-numbers g c = inr (ap (λ v. v.set) c.in_ok-number.ensures.ok)
 
 pub returns-clause-version : goal.returns-clause-version
 returns-clause-version g c = ap (λ v. v.current) c.in_ok-number.ensures.ok
-
-pub returns-clause-parts : goal.returns-clause-parts
-returns-clause-parts g c =
-    let o = c.in_ok-table.ensures in
-    let choices = choices_of g.C.Cmp g.FP.FilterPolicy (key_cmp g.row.C g.C.UserCmp g.C.UserCmp-dict g.C.Cmp g.C.Cmp-dict) (key_policy g.row.FP g.FP.FilterPolicy g.FP.FilterPolicy-dict) (compressors g.dyn-2).codings c.args.options.now in
-    begun_added choices g.E.Env (c.args.key.now, c.args.value.now) c.new_builder-core.ensures o.is.1 o.does o.file c.in_ok-add.ensures.ok c.add.ensures.choices

@@ -50,13 +50,14 @@ returns-in_err-close g c =
 pub returns : goal.returns
 returns g c = record {
   puts = λ first tables pairs have.
+      let begins = c.begin.ensures.begins in
       begun_is_put _ g.E.Env c.args.store.now have c.args.options.now.max_file_size (c.args.key.now, c.args.value.now) c.close.new.self.done c.begin.result
       (elim c.else-not-due.branch [
         | else-not-due-via-then-not-due+else-is_some w ↦ inr (sym (ap (λ v. v.unfinished) c.self.view_is) ∙ none_of c.self.inside.unfinished w.if-is_some.ensures)
         | else-not-due-via-else-not-due w ↦ inl (sym w.if-not-due.ensures)
       ])
       (c.in_ok-close.ensures.finishes c.args.store.now first c.args.versions.now.set.next_file tables pairs have)
-      (λ ready are cut. c.begin.ensures.begins first ready are cut) (may_rise c.begin.ensures.numbers) c.begin.ensures.changes c.begin.ensures.parts c.begin.ensures.cause c.begin.ensures.ends;
+      (λ ready are cut. begins.ok first ready are cut) (may_rise c.begin.ensures.numbers) begins.changes begins.parts begins.cause begins.ends;
   numbers = c.begin.ensures.numbers;
   version = c.begin.ensures.version;
 }
