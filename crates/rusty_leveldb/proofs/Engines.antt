@@ -23,3 +23,4 @@ pub mod WriteCallLemmas
 pub mod UnknownLemmas
 pub mod RowLemmas
 pub mod CallLawsLemmas
+pub mod SaysLemmas

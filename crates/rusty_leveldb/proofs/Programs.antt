@@ -3,6 +3,11 @@ mod Turns
 pub mod TurnLemmas
 pub mod Playing
 pub mod Living
+pub mod CallsMade
+mod LifeStories
+mod Meanings
+mod Storied
+pub mod RunStories
 pub mod Lives
 pub mod Words
 pub mod Lines

@@ -9,3 +9,4 @@ pub mod IteratorLawsLemmas
 pub mod IteratingLemmas
 pub mod ReaderIteratingLemmas
 pub mod ScanLemmas
+pub mod SaysLemmas

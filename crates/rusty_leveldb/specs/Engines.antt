@@ -8,3 +8,4 @@ pub mod Rows
 pub mod Room
 pub mod Calls
 pub mod CallLaws
+pub mod Witness

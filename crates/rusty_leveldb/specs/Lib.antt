@@ -1,5 +1,7 @@
 pub mod Headline
+pub mod HeadlineLaws
 pub mod Machines
+pub mod Says
 pub mod Engines
 pub mod Openings
 pub mod Compactions

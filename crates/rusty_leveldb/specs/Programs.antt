@@ -2,6 +2,7 @@
 pub mod Views
 pub mod Shell
 pub mod RunCalls
+pub mod Story
 pub mod RunAlone
 pub mod Lives
 pub mod Language

@@ -5,6 +5,7 @@ ghost use Rattle.leveldb_base.specs.Error.{IsOutOfMemory};
 ghost use Rattle.leveldb_base.specs.Types.{copied_pair, last_position, next_position, pair_of, position_within, previous_position, seek_position};
 ghost use Rattle.leveldb_base.specs.declared.error.StatusCode.TheVariants.{InvalidArgument};
 ghost use Rattle.leveldb_base.specs.KeyTypes.{IsLongKey};
+ghost use Rattle.rusty_leveldb.specs.Headline as headline;
 ghost use Rattle.rusty_leveldb.specs.Walks.ReadSamples.{CountsRead};
 
 use crate::read_samples::ReadSamples;
@@ -57,11 +58,16 @@ impl<
     K: ReadsTables<E, C, FP>,
     V: Walk<E, ReadTables<'a, E, C, FP, K>> + CountsBytes,
 > StoreIterator<'a, E, C, FP, K, V> {
+    ghost use Rattle.rusty_leveldb.specs.Engines.Witness.{iterating_in};
+    ghost use Rattle.rusty_leveldb.specs.Says.{SaysMoved, SaysPair};
     ghost use Rattle.rusty_leveldb.specs.Walks.Iterator.{MovesIterator, no_cause, ok_move, pair_in};
 
     /// Moves to the next pair, from no position to the first, and from the last to no position.
     /// Returns whether it is at a pair.
     pub fn advance(&mut self) -> Result<bool>
+        ensures says { SaysMoved (iterating_in ⟦<InternalKeyCmp<C> as Cmp>⟧ E.Env C.Cmp
+            FP.FilterPolicy K.codings V.Walk) headline.advance
+            (E.failures self.old.env.now) self.old result (E.failures self.new.env.now) self.new }
         ensures moves { MovesIterator ⟦<InternalKeyCmp<C> as Cmp>⟧ E.Env C.Cmp FP.FilterPolicy
             K.codings V.Walk no_cause (λ _. next_position) self.old result self.new }
         ensures valid { IfOk result (λ is_valid. is_valid ≡ is_some
@@ -75,6 +81,9 @@ impl<
     /// Moves to the pair before, and from the first or from no position to no position.
     /// Returns whether it is at a pair.
     pub fn prev(&mut self) -> Result<bool>
+        ensures says { SaysMoved (iterating_in ⟦<InternalKeyCmp<C> as Cmp>⟧ E.Env C.Cmp
+            FP.FilterPolicy K.codings V.Walk) headline.prev
+            (E.failures self.old.env.now) self.old result (E.failures self.new.env.now) self.new }
         ensures moves { MovesIterator ⟦<InternalKeyCmp<C> as Cmp>⟧ E.Env C.Cmp FP.FilterPolicy
             K.codings V.Walk no_cause (λ _ _. previous_position) self.old result self.new }
         ensures valid { IfOk result (λ is_valid. is_valid ≡ is_some
@@ -88,6 +97,9 @@ impl<
     /// Moves to the first pair whose key is at or after `key`, or to no position where all are
     /// before it. A key of more than 2^30 bytes is `InvalidArgument`.
     pub fn seek(&mut self, key: &[u8]) -> Result<()>
+        ensures says { SaysMoved (iterating_in ⟦<InternalKeyCmp<C> as Cmp>⟧ E.Env C.Cmp
+            FP.FilterPolicy K.codings V.Walk) (headline.seek key.now)
+            (E.failures self.old.env.now) self.old result (E.failures self.new.env.now) self.new }
         ensures moves { MovesIterator ⟦<InternalKeyCmp<C> as Cmp>⟧ E.Env C.Cmp FP.FilterPolicy
             K.codings V.Walk (λ e. (e.code ≡ InvalidArgument) × IsLongKey key.now)
             (λ order pairs _. seek_position order pairs key.now) self.old result self.new }
@@ -104,7 +116,10 @@ impl<
 
     /// Moves to the first pair, or to no position in an empty store.
     pub fn seek_to_first(&mut self) -> Result<()>
-        ensures { MovesIterator ⟦<InternalKeyCmp<C> as Cmp>⟧ E.Env C.Cmp FP.FilterPolicy
+        ensures says { SaysMoved (iterating_in ⟦<InternalKeyCmp<C> as Cmp>⟧ E.Env C.Cmp
+            FP.FilterPolicy K.codings V.Walk) headline.seek_to_first
+            (E.failures self.old.env.now) self.old result (E.failures self.new.env.now) self.new }
+        ensures moves { MovesIterator ⟦<InternalKeyCmp<C> as Cmp>⟧ E.Env C.Cmp FP.FilterPolicy
             K.codings V.Walk no_cause (λ _ pairs _. position_within pairs 0) self.old result
             self.new }
     {
@@ -145,6 +160,9 @@ impl<
 
     /// Moves to no position.
     pub fn reset(&mut self)
+        ensures says { SaysMoved (iterating_in ⟦<InternalKeyCmp<C> as Cmp>⟧ E.Env C.Cmp
+            FP.FilterPolicy K.codings V.Walk) headline.reset
+            (E.failures self.old.env.now) self.old ok_move (E.failures self.new.env.now) self.new }
         ensures moves { MovesIterator ⟦<InternalKeyCmp<C> as Cmp>⟧ E.Env C.Cmp FP.FilterPolicy
             K.codings V.Walk no_cause (λ _ _ _. None) self.old ok_move self.new }
         ensures none { pair_in V.Walk self.new ≡ None }
@@ -154,7 +172,9 @@ impl<
 
     /// The key and the value of the pair that it is at, borrowed until it moves or ends.
     pub fn current(&self) -> Option<(&[u8], &[u8])>
-        ensures { pair_of result
+        ensures says { SaysPair (iterating_in ⟦<InternalKeyCmp<C> as Cmp>⟧ E.Env C.Cmp
+            FP.FilterPolicy K.codings V.Walk) self.now (pair_of result) }
+        ensures pair { pair_of result
             ≡ pair_in V.Walk self.now }
     {
         self.view.current()

@@ -2,6 +2,8 @@
 
 ghost use Rattle.rusty_leveldb.specs.Compactions.CompactionLaws.{AreViewsInTables};
 ghost use Rattle.rusty_leveldb.specs.Engines.CallLaws.{RefusalsAreExplained};
+ghost use Rattle.rusty_leveldb.specs.Engines.Witness.{AreShownBy, EachOpeningSays, shown_by};
+ghost use Rattle.rusty_leveldb.specs.HeadlineLaws.{AbandonedIsWhole, BatchIsLeftWhole, BatchesAreReadWhole, DurableIsKept, ForwardWalkGivesMap, LaterEntryWins, PrevLeadsBack, SnapshotReadsTheSame};
 ghost use Rattle.rusty_leveldb.specs.Walks.Iterator.{ScanGivesPairs};
 ghost use Rattle.rusty_leveldb.specs.Walks.IteratorLaws.{PrevUndoesNext};
 ghost use Rattle.rusty_leveldb.specs.Machines.Laws.{OneReading, NothingStands, CrashBetween, CrashInside, CrashSince, RefusalHasCause, StepFits, CrashFits, CrashInsideFits, LivesFit, DurableStays, SyncedStays, EachAnswerParts, HistoryIsAsked, HistoryIsPlaced, MoreIsAsked, LongItemMakesLongBatch, SyncedIsRead, ViewsStay, HeldStays, SnapshotIsRead, ForwardWalkGivesView, PrevUndoesAdvance, SyncedCanBeFound};
@@ -27,6 +29,49 @@ pub fn machines_are_maps()
     ensures lives { LivesAreStories }
     ensures runs { RunsAreStories }
     ensures repaired { RepairsAreShown }
+{}
+
+/// The relations by which each call of `DB` says what it does have their laws: an empty folder holds
+/// the store of no batch, what a disk holds is closed, and a crash between two calls leaves a crash
+/// row of what is shown or held. And `Engine::open` says what `DB::open` does, of the environment
+/// that it is given.
+pub fn stores_are_shown<E: Env, C: UserCmp + Copy, FP: FilterPolicy + Copy>(
+    options: &Options<C, FP>,
+)
+    ensures laws { AreShownBy options.now (shown_by ⟦<InternalKeyCmp<C> as Cmp>⟧ E.Env C.Cmp
+        FP.FilterPolicy ⟦<CompressorList as Compressors>⟧.codings) }
+    ensures opens { let codings = ⟦<CompressorList as Compressors>⟧.codings in
+        EachOpeningSays E.Env (choices_of C.Cmp FP.FilterPolicy ⟦<InternalKeyCmp<C> as Cmp>⟧
+        ⟦<InternalFilterPolicy<FP> as FilterPolicy>⟧ codings) options.now
+        (shown_by ⟦<InternalKeyCmp<C> as Cmp>⟧ E.Env C.Cmp FP.FilterPolicy codings) }
+{}
+
+/// A batch is atomic: all look-ups and walks, now or at one snapshot, see the same first batches,
+/// each of them whole; and one whose write a crash cuts short is there whole afterwards, or not at
+/// all. In a batch the later entry of a key wins.
+pub fn batches_are_atomic()
+    ensures reads { BatchesAreReadWhole }
+    ensures recovery { BatchIsLeftWhole }
+    ensures later { LaterEntryWins }
+{}
+
+/// What is durable stays, whatever calls and crashes come. After an open store is abandoned and
+/// opened again, all of its batches are there.
+pub fn durable_maps_are_kept()
+    ensures durable { DurableIsKept }
+    ensures abandoned { AbandonedIsWhole }
+{}
+
+/// A look-up at a snapshot that is held finds the same before and after writes and compactions.
+pub fn held_snapshots_read_the_same()
+    ensures { SnapshotReadsTheSame }
+{}
+
+/// A walk that goes forward gives each pair of the map, each key once, and ends. A move back after
+/// one forward leads to where the walk was.
+pub fn walks_give_the_map()
+    ensures forward { ForwardWalkGivesMap }
+    ensures back { PrevLeadsBack }
 {}
 
 /// What a store's files hold is determined, so a store can't choose what it recovers. And a disk

@@ -1,13 +1,15 @@
 //! The example of README.md, word for word (`tools/quotes` compares the two).
 use leveldb_base::error::Result;
-use rusty_leveldb::{DB, MemEnv, Options, WriteBatch};
+use rusty_leveldb::db_impl::{Engine, Store};
+use rusty_leveldb::{MemEnv, Options, WriteBatch};
 
 #[test]
 fn readme_example(rt: HostRuntime) -> Result<()> {
     let alloc = rt.alloc();
 
     let mut env = MemEnv::new(alloc);
-    let mut db = DB::open(alloc, "db", &mut env, Options::default())?;
+    let engine = Engine::open(alloc, "db", &mut env, Options::default())?;
+    let mut db = Store::around(&mut env, engine); // a DB
     db.put(b"a", b"1")?; // not durable until flush, close or a synced write returns
     let mut batch = WriteBatch::new(alloc)?;
     batch.put(b"b", b"2")?;

@@ -1,6 +1,6 @@
 -- Where entries are once room was made and a batch was written, whatever the files are.
 use Rattle.std.specs.Prelude.{Contains, IfSome, IsTrue, Result}
-use Rattle.std.proofs.Common.{◌≡◌, ◌∙◌, ◌++◌, ◌⊎◌, inl, inr, ⊎_elim, ℕ, Bool, List, [], Option, None, Some, Ok, Err, ap, append-nil, refl, subst, sym}
+use Rattle.std.proofs.Common.{◌≡◌, ◌∙◌, ◌++◌, inl, inr, ⊎_elim, ℕ, Bool, List, [], Option, None, Some, Ok, Err, ap, append-nil, refl, subst, sym}
 use Rattle.std.proofs.lemmas.List.Elements.{Contains-append_cases, Contains-append_left, Contains-append_right}
 use Rattle.std.specs.declared.cmp.Ordering.{Ordering}
 use Rattle.leveldb_base.specs.History.{Entry, Item}

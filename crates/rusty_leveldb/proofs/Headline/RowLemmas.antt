@@ -1,6 +1,6 @@
 -- A step of the machine is a row of the headline.
 use Rattle.std.proofs.Common.{◌≡◌, ◌≤◌, ◌<◌, ◌+◌, ◌⊎◌, ⊎_elim, inl, inr, ℕ, Bool, true, false, List, [], ◌∷◌, ◌++◌, length, refl, sym, ◌∙◌, ap, subst, arith, Option, Some, None, Contains, length-append}
-use Rattle.std.specs.Prelude.{◌↔◌, map, max, option_to_list, if◌then◌else◌}
+use Rattle.std.specs.Prelude.{◌↔◌, max, option_to_list, if◌then◌else◌}
 use Rattle.std.proofs.lemmas.List.{take_all}
 use Rattle.std.specs.declared.cmp.Ordering.{Ordering}
 use Rattle.leveldb_base.specs.History.{Item, Entry, History, entries_of, with_batch, HasValueAt, IsView}
@@ -11,11 +11,11 @@ use Rattle.rusty_leveldb.specs.Headline.{Batch, map_of, UserStore, StoreMode, is
 use Rattle.rusty_leveldb.specs.Machines.State.{Mode, open_mode, broken, closed, Snapshot, Opening, State, IsState, Move, Request, open_store, write, get, walk, get_snapshot, release_snapshot, flush, compact_range, close, abandon, Refusal, Answer, done, found, walked, snapshot, refused}
 use Rattle.rusty_leveldb.specs.Machines.Causes.{Setting, Cause, out_of_memory, device_failed, IsCausedBy, IsClosedRefusal, IsBrokenRefusal}
 use Rattle.rusty_leveldb.specs.Machines.Machine.{MayGrow, Keeps, added_batch, Writes, AllDurable, Breaks, Gives, Releases, Closes, Abandons, Opens, StaysClosed, MayBreak, KeepsOrBreaks, LeavesRefused, Responds, Rejects, Step}
-use Rattle.rusty_leveldb.specs.Machines.Shown.{changes_of, snapshot_number, walk_move_of, call_of, IsCallOf, IsOutcomeOf, store_mode_of, AreShownAs, IsHeldAs, AreHeldAs, IsShownAs, StepsAreRows}
+use Rattle.rusty_leveldb.specs.Machines.Shown.{changes_of, call_of, HasFault, IsEncodingFault, IsCallOf, IsOutcomeOf, store_mode_of, AreShownAs, IsHeldAs, AreHeldAs, IsShownAs, StepsAreRows}
 use Rattle.rusty_leveldb.proofs.Machines.MachineLemmas.{none_pending}
 use Rattle.rusty_leveldb.proofs.Headline.MapLemmas.{more_shown, whole_shown}
 use Rattle.rusty_leveldb.proofs.Headline.ShownLemmas.{none_pending_shown, shown_with_none, nothing_pending, held_push, held_split, held_more, looked_up, reads_map}
-use Rattle.rusty_leveldb.proofs.Headline.WalkRowLemmas.{why_of, has_code, caused, listing, walk_told}
+use Rattle.rusty_leveldb.proofs.Headline.WalkRowLemmas.{why_of, has_code, caused, fault_of, listing, walk_told}
 
 -- a store that a state shows, and of which this holds
 pub record Leads (P : UserStore → Type 0) (new : State) : Type 0 where
@@ -355,23 +355,26 @@ module _ (cmp : List ℕ → List ℕ → Ordering) (setting : Setting) (old new
     (store : UserStore) (is : IsState old) (shown : IsShownAs old store)
     (order : old.format.order ≡ cmp) where
   -- a call that the mode allows
-  pub record IsAllowed (call : Call) (answer : Answer) : Type 0 where
+  pub record IsAllowed (request : Request) (answer : Answer) : Type 0 where
     pub outcome : CallOutcome
     pub next : UserStore
     pub told : IsOutcomeOf answer outcome
-    pub caused_so : IsCaused call outcome
-    pub row : AllowedRow cmp store call outcome next
+    pub caused_so : IsCaused (call_of request) outcome
+    pub faults : HasFault (IsEncodingFault old request answer) setting.before setting.after outcome
+    pub row : AllowedRow cmp store (call_of request) outcome next
     pub shown_so : IsShownAs new next
 
   -- one that is done
-  does : (call : Call) (answer : Answer) (outcome : CallOutcome) → IsOutcomeOf answer outcome
-      → IsCaused call outcome → Leads (AllowedRow cmp store call outcome) new
-      → IsAllowed call answer
-  does call answer outcome told caused_so l = record {
+  does : (request : Request) (answer : Answer) (outcome : CallOutcome) → IsOutcomeOf answer outcome
+      → IsCaused (call_of request) outcome
+      → HasFault (IsEncodingFault old request answer) setting.before setting.after outcome
+      → Leads (AllowedRow cmp store (call_of request) outcome) new → IsAllowed request answer
+  does request answer outcome told caused_so faults l = record {
     outcome = outcome;
     next = l.next;
     told = told;
     caused_so = caused_so;
+    faults = faults;
     row = l.row;
     shown_so = l.shown;
   }
@@ -380,20 +383,21 @@ module _ (cmp : List ℕ → List ℕ → Ordering) (setting : Setting) (old new
   fails : (request : Request) (refusal : Refusal) (cause : Cause)
       → IsCausedBy setting old request refusal cause
       → Leads (AllowedRow cmp store (call_of request) (failed (why_of cause))) new
-      → IsAllowed (call_of request) (refused refusal)
+      → IsAllowed request (refused refusal)
   fails request refusal cause comes l =
-      does (call_of request) (refused refusal) (failed (why_of cause))
+      does request (refused refusal) (failed (why_of cause))
       (inr (inr (why_of cause, refl, has_code setting old request refusal cause comes)))
-      (caused setting old request refusal cause comes) l
+      (caused setting old request refusal cause comes)
+      (fault_of setting old request refusal cause comes) l
 
   open_row : (opening : Opening) (answer : Answer)
       → Responds setting old (open_store opening) answer new
-      → IsAllowed headline.open_store answer
+      → IsAllowed (open_store opening) answer
   open_row opening (refused refusal) s =
       fails (open_store opening) refusal s.cause s.comes
       (unopened_row old store is shown setting opening refusal s.cause new s.leaves)
   open_row opening done s =
-      does headline.open_store done headline.done refl tt
+      does (open_store opening) done headline.done refl tt tt
       (opens_row old store is shown cmp opening new s.1)
   open_row opening (found value) s = absurd s.1
   open_row opening (walked landings) s = absurd s.1
@@ -401,12 +405,12 @@ module _ (cmp : List ℕ → List ℕ → Ordering) (setting : Setting) (old new
 
   write_row : (items : List Item) (sync : Bool) (answer : Answer) → old.mode ≡ open_mode
       → Responds setting old (write items sync) answer new
-      → IsAllowed (headline.write (changes_of items) sync) answer
+      → IsAllowed (write items sync) answer
   write_row items sync (refused refusal) m s =
       fails (write items sync) refusal s.cause s.comes
       (may_break_with_row old store is shown items s.cause new s.leaves)
   write_row items sync done m s =
-      does (headline.write (changes_of items) sync) done headline.done refl tt
+      does (write items sync) done headline.done refl tt tt
       (writes_row old store is shown items sync new m s.1)
   write_row items sync (found value) m s = absurd s.1
   write_row items sync (walked landings) m s = absurd s.1
@@ -414,7 +418,7 @@ module _ (cmp : List ℕ → List ℕ → Ordering) (setting : Setting) (old new
 
   get_row : (at : Option Snapshot) (key : List ℕ) (answer : Answer)
       → Responds setting old (get at key) answer new
-      → IsAllowed (headline.get (snapshot_number at) key) answer
+      → IsAllowed (get at key) answer
   get_row at key (refused refusal) s =
       fails (get at key) refusal s.cause s.comes (same_row old store is shown new s.leaves)
   get_row at key (found value) s =
@@ -426,6 +430,7 @@ module _ (cmp : List ℕ → List ℕ → Ordering) (setting : Setting) (old new
         next = l.next;
         told = refl;
         caused_so = tt;
+        faults = tt;
         row = (
           l.row,
           reads.shown,
@@ -441,7 +446,7 @@ module _ (cmp : List ℕ → List ℕ → Ordering) (setting : Setting) (old new
 
   walk_row : (at : Option Snapshot) (moves : List Move) (answer : Answer)
       → Responds setting old (walk at moves) answer new
-      → IsAllowed (headline.walk (snapshot_number at) (map walk_move_of moves)) answer
+      → IsAllowed (walk at moves) answer
   walk_row at moves (refused refusal) s =
       fails (walk at moves) refusal s.cause s.comes (same_row old store is shown new s.leaves)
   walk_row at moves (walked landings) s =
@@ -455,6 +460,7 @@ module _ (cmp : List ℕ → List ℕ → Ordering) (setting : Setting) (old new
         next = l.next;
         told = (told.results, refl, told.told);
         caused_so = tt;
+        faults = told.faults;
         row = (
           l.row,
           reads.shown,
@@ -472,11 +478,11 @@ module _ (cmp : List ℕ → List ℕ → Ordering) (setting : Setting) (old new
   walk_row at moves (snapshot one) s = absurd s.1
 
   get_snapshot_row : (answer : Answer) → Responds setting old get_snapshot answer new
-      → IsAllowed headline.get_snapshot answer
+      → IsAllowed get_snapshot answer
   get_snapshot_row (refused refusal) s =
       fails get_snapshot refusal s.cause s.comes (same_row old store is shown new s.leaves)
   get_snapshot_row (snapshot one) s =
-      does headline.get_snapshot (snapshot one) (headline.snapshot one.number) refl tt
+      does get_snapshot (snapshot one) (headline.snapshot one.number) refl tt tt
       (gives_row old store is shown cmp one new s.1)
   get_snapshot_row done s = absurd s.1
   get_snapshot_row (found value) s = absurd s.1
@@ -489,44 +495,44 @@ module _ (cmp : List ℕ → List ℕ → Ordering) (setting : Setting) (old new
   flush_leaves refusal cause l = may_break_row old store is shown cause new l
 
   flush_row : (answer : Answer) → Responds setting old flush answer new
-      → IsAllowed headline.flush answer
+      → IsAllowed flush answer
   flush_row (refused refusal) s =
       fails flush refusal s.cause s.comes (flush_leaves refusal s.cause s.leaves)
   flush_row done s =
-      does headline.flush done headline.done refl tt (durable_row old store is shown new s.1)
+      does flush done headline.done refl tt tt (durable_row old store is shown new s.1)
   flush_row (found value) s = absurd s.1
   flush_row (walked landings) s = absurd s.1
   flush_row (snapshot one) s = absurd s.1
 
   compact_row : (from to : List ℕ) (answer : Answer)
       → Responds setting old (compact_range from to) answer new
-      → IsAllowed headline.compact_range answer
+      → IsAllowed (compact_range from to) answer
   compact_row from to (refused refusal) s =
       fails (compact_range from to) refusal s.cause s.comes
       (may_break_row old store is shown s.cause new s.leaves)
   compact_row from to done s =
-      does headline.compact_range done headline.done refl tt (keeps_row old store is shown new s.1)
+      does (compact_range from to) done headline.done refl tt tt (keeps_row old store is shown new s.1)
   compact_row from to (found value) s = absurd s.1
   compact_row from to (walked landings) s = absurd s.1
   compact_row from to (snapshot one) s = absurd s.1
 
   close_row : (answer : Answer) → Responds setting old close answer new
-      → IsAllowed headline.close answer
+      → IsAllowed close answer
   close_row (refused refusal) s =
       fails close refusal s.cause s.comes (breaks_none_row old store is shown new s.leaves)
   close_row done s =
-      does headline.close done headline.done refl tt (closes_row old store is shown new s.1)
+      does close done headline.done refl tt tt (closes_row old store is shown new s.1)
   close_row (found value) s = absurd s.1
   close_row (walked landings) s = absurd s.1
   close_row (snapshot one) s = absurd s.1
 
   abandon_row : (answer : Answer) → Responds setting old abandon answer new
-      → IsAllowed headline.abandon answer
+      → IsAllowed abandon answer
   abandon_row (refused refusal) s =
       fails abandon refusal s.cause s.comes
       (abandons_row old store is shown old.locked new s.leaves)
   abandon_row done s =
-      does headline.abandon done headline.done refl tt
+      does abandon done headline.done refl tt tt
       (abandons_row old store is shown false new s.1)
   abandon_row (found value) s = absurd s.1
   abandon_row (walked landings) s = absurd s.1
@@ -540,12 +546,13 @@ module _ (cmp : List ℕ → List ℕ → Ordering) (setting : Setting) (old new
     pub next : UserStore
     pub asked : IsCallOf request answer call
     pub told : IsOutcomeOf answer outcome
+    pub faults : HasFault (IsEncodingFault old request answer) setting.before setting.after outcome
     pub row : CallRow cmp mode store call outcome next
     pub shown_so : IsShownAs new next
 
   -- an allowed call whose row it is
   row_of : (mode : StoreMode) (request : Request) (answer : Answer) (call : Call)
-      → IsCallOf request answer call → (a : IsAllowed call answer)
+      → IsCallOf request answer call → (a : IsAllowed request answer)
       → CallRow cmp mode store call a.outcome a.next → IsRowAt mode request answer
   row_of mode request answer call asked a row = record {
     call = call;
@@ -553,6 +560,7 @@ module _ (cmp : List ℕ → List ℕ → Ordering) (setting : Setting) (old new
     next = a.next;
     asked = asked;
     told = a.told;
+    faults = a.faults;
     row = row;
     shown_so = a.shown_so;
   }
@@ -585,6 +593,7 @@ module _ (cmp : List ℕ → List ℕ → Ordering) (setting : Setting) (old new
             refl,
             has_code setting old (release_snapshot one) refusal s.cause s.comes,
           ));
+          faults = fault_of setting old (release_snapshot one) refusal s.cause s.comes;
           row = as_allowed (past store.held) (failed (why_of s.cause)) l.next
               (caused setting old (release_snapshot one) refusal s.cause s.comes)
               (λ count. not_held store.held count, l.row);
@@ -598,6 +607,7 @@ module _ (cmp : List ℕ → List ℕ → Ordering) (setting : Setting) (old new
           next = l.next;
           asked = refl;
           told = refl;
+          faults = tt;
           row = as_allowed one.number headline.done l.next tt l.row;
           shown_so = l.shown;
         }
@@ -632,6 +642,7 @@ module _ (cmp : List ℕ → List ℕ → Ordering) (setting : Setting) (old new
     next = store;
     asked = asked;
     told = told.0;
+    faults = tt;
     row = row;
     shown_so = (same_row old store is shown new told.1).shown;
   }
@@ -644,6 +655,7 @@ module _ (cmp : List ℕ → List ℕ → Ordering) (setting : Setting) (old new
     next = store;
     asked = refl;
     told = subst (λ a. IsOutcomeOf a headline.done) (sym s.0) refl;
+    faults = tt;
     row = (refl, refl);
     shown_so = subst (λ t. IsShownAs t store) (sym s.1) shown;
   }
@@ -740,6 +752,7 @@ steps_are_rows cmp setting old new request answer store is shown order step =
       next = r.next;
       asked = r.asked;
       told = r.told;
+      faults = r.faults;
       row = subst (λ mode. CallRow cmp mode store r.call r.outcome r.next) (sym shown.mode) r.row;
       shown = r.shown_so;
     }

@@ -24,7 +24,7 @@ use Rattle.rusty_leveldb.proofs.Headline.RowLemmas.{steps_are_rows}
 
 module _ (cmp : List ℕ → List ℕ → Ordering) (old new : State) (request : Request)
     (order : old.format.order ≡ cmp) (opened : IsOpenedIn cmp request) where
-  order_after : Change old request new → new.format.order ≡ cmp
+  pub order_after : Change old request new → new.format.order ≡ cmp
   order_after (same e) = ap (λ (s : State). s.format.order) e ∙ order
   order_after (opens opening asked o) =
       ap (λ (s : State). s.format.order) o.state ∙ subst (IsOpenedIn cmp) asked opened
@@ -105,7 +105,7 @@ module _ (old : State) (store : UserStore) (is : IsState old) (shown : IsShownAs
       (subst (λ h. AreShownAs h (store.batches ++ option_to_list store.pending)) (sym e)
       shown.pending) (sym (append-nil (store.batches ++ option_to_list store.pending))) none_cut c
 
-  between_told : (new : State) → Crashes old (risk_between old) new → CrashIsTold store None new
+  pub between_told : (new : State) → Crashes old (risk_between old) new → CrashIsTold store None new
   between_told new c = as_before (risk_between old) new refl c
 
   -- the batch of a write too
@@ -169,7 +169,7 @@ module _ (old : State) (store : UserStore) (is : IsState old) (shown : IsShownAs
           told = with_written items (risk_of request old next) new m (risk.0 ∙ e) c;
         }
 
-    inside_told : (new : State) → Change old request next
+    pub inside_told : (new : State) → Change old request next
         → Crashes old (risk_of request old next) new → InsideIsTold new
     inside_told new (same e) c =
         left_as_is new (ap (λ (s : State). with_batch s.history s.pending) e) c
@@ -207,7 +207,7 @@ module _ (old : State) (store : UserStore) (is : IsState old) (shown : IsShownAs
 -- ---- stories
 
 module _ (cmp : List ℕ → List ℕ → Ordering) where
-  both_told : (front rest : List headline.StoryEvent) (a b c : UserStore) → IsStory cmp a front b
+  pub both_told : (front rest : List headline.StoryEvent) (a b c : UserStore) → IsStory cmp a front b
       → IsStory cmp b rest c → IsStory cmp a (front ++ rest) c
   both_told [] rest a b c first then = subst (λ s. IsStory cmp s rest c) first then
   both_told (returned call outcome ∷ front) rest a b c first then =
@@ -268,7 +268,7 @@ module _ (cmp : List ℕ → List ℕ → Ordering) where
       pub told : CrashIsTold store cut new
       pub is : IsState new
 
-    cut_told : (undone : List Event) (last_answer moment : ℕ) (inside : Bool) (failures end : ℕ)
+    pub cut_told : (undone : List Event) (last_answer moment : ℕ) (inside : Bool) (failures end : ℕ)
         (state last new : State) (store : UserStore) → IsState state → IsShownAs state store
         → CrashBefore meaning last_answer moment inside failures state undone end last new
         → CutIsTold store undone new
@@ -301,7 +301,7 @@ module _ (cmp : List ℕ → List ℕ → Ordering) where
         } in inner) c.4
 
     -- the format stays in a crash
-    order_left : (undone : List Event) (last_answer moment : ℕ) (inside : Bool) (failures end : ℕ)
+    pub order_left : (undone : List Event) (last_answer moment : ℕ) (inside : Bool) (failures end : ℕ)
         (state last new : State) → state.format.order ≡ cmp
         → CrashBefore meaning last_answer moment inside failures state undone end last new
         → new.format.order ≡ cmp
@@ -402,7 +402,7 @@ nothing_shown = record {
       none_shown);
 }
 
-new_shown : (format : Format) → IsShownAs (new_state format) (fresh_store [] 0 is_closed)
+pub new_shown : (format : Format) → IsShownAs (new_state format) (fresh_store [] 0 is_closed)
 new_shown format = record {
   batches = nothing_shown;
   pending = nothing_shown;

@@ -1,18 +1,21 @@
 -- A walk of the machine is one of the headline.
-use Rattle.std.proofs.Common.{◌≡◌, ◌+◌, ℕ, Bool, true, false, cond, not, List, [], ◌∷◌, length, refl, sym, ◌∙◌, ap, subst, arith, Option, Some, None, All}
+use Rattle.std.proofs.Common.{◌≡◌, ◌≤◌, ◌<◌, ◌+◌, ⊎_elim, inl, inr, ℕ, Bool, true, false, cond, not, List, [], ◌∷◌, length, refl, sym, ◌∙◌, ap, subst, arith, Option, Some, None, All}
 use Rattle.std.specs.Prelude.{◌↔◌, Contains, map, nat_lt, if◌then◌else◌, IsTrue, Result, Ok, Err}
 use Rattle.std.specs.List.{prefix_len}
 use Rattle.std.specs.Ordering.{is_lt}
 use Rattle.std.specs.declared.cmp.Ordering.{Ordering}
 use Rattle.std.proofs.lemmas.List.Elements.{All-nil, All-cons}
+use Rattle.std.proofs.Math.Nat.{eq-or-lt_of_le}
 use Rattle.leveldb_base.specs.History as history
+use Rattle.leveldb_base.proofs.HistoryLemmas.{in_none, in_cases}
+use Rattle.leveldb_store.specs.Writing.Room.{HasFailed}
 use Rattle.leveldb_base.specs.Types.{Pair, count_before, pair_at}
 use Rattle.rusty_leveldb.specs.Headline as headline
 use Rattle.rusty_leveldb.specs.Headline.{Map, IsListing, moved_to, AreMoves, Why, causes, read_causes}
-use Rattle.rusty_leveldb.specs.Machines.State.{State, Snapshot, Move, seek_to_first, advance, prev, seek, reset, Request, open_store, write, get, walk, get_snapshot, release_snapshot, flush, compact_range, close, abandon, Refusal, Landing, stands_on, nowhere, move_refused}
+use Rattle.rusty_leveldb.specs.Machines.State.{State, Snapshot, Move, seek_to_first, advance, prev, seek, reset, Request, open_store, write, get, walk, get_snapshot, release_snapshot, flush, compact_range, close, abandon, Refusal, Landing, stands_on, nowhere, move_refused, refused}
 use Rattle.rusty_leveldb.specs.Machines.Causes.{Setting, Cause, out_of_memory, device_failed, lock_is_held, bad_operand, store_exists, used_up, too_large, compressor_failed, lacks_compressor, IsCausedBy, IsMoveCausedBy}
 use Rattle.rusty_leveldb.specs.Machines.Machine.{position_after, MoveLands, Moves}
-use Rattle.rusty_leveldb.specs.Machines.Shown.{call_of, walk_move_of, HasCode, AreResultsOf}
+use Rattle.rusty_leveldb.specs.Machines.Shown.{call_of, walk_move_of, HasFault, IsEncodingFault, HasCode, AreResultsOf}
 
 -- ---- causes
 
@@ -30,7 +33,7 @@ why_of lacks_compressor = headline.not_supported
 
 pub has_code : (setting : Setting) (old : State) (request : Request) (refusal : Refusal)
     (cause : Cause) → IsCausedBy setting old request refusal cause
-    → HasCode (why_of cause) refusal
+    → HasCode (why_of cause) refusal.code
 has_code setting old request refusal out_of_memory c = c.1
 has_code setting old request refusal device_failed c = tt
 has_code setting old request refusal lock_is_held c = c.1
@@ -41,10 +44,19 @@ has_code setting old request refusal too_large c = c.1
 has_code setting old request refusal compressor_failed c = tt
 has_code setting old request refusal lacks_compressor c = c.1
 
+-- a fault that is told of has come
+pub fault_of : (setting : Setting) (old : State) (request : Request) (refusal : Refusal)
+    (cause : Cause) → IsCausedBy setting old request refusal cause
+    → HasFault (IsEncodingFault old request (refused refusal)) setting.before setting.after
+    (headline.failed (why_of cause))
+fault_of setting old request refusal device_failed c = c.1
+fault_of setting old request refusal compressor_failed c = c
+fault_of setting old request refusal cause c = tt
+
 -- the same of a move
 move_code : (setting : Setting) (old : State) (request : Request) (move : Move)
     (refusal : Refusal) (cause : Cause) → IsMoveCausedBy setting old request move refusal cause
-    → HasCode (why_of cause) refusal
+    → HasCode (why_of cause) refusal.code
 move_code setting old request reset refusal cause c = absurd c
 move_code setting old request move refusal bad_operand c = c.0
 move_code setting old request move refusal cause c = has_code setting old request refusal cause c
@@ -142,6 +154,10 @@ move_caused setting old at all reset refusal cause c = absurd c
 move_caused setting old at all move refusal bad_operand c = (2, omega arith, refl)
 move_caused setting old at all move refusal cause c = caused setting old (walk at all) refusal cause c
 
+same_why : (one two : Why) → ◌≡◌ {A = Result (Option Pair) Why} (Err one) (Err two)
+    → one ≡ two
+same_why one two e = cc
+
 -- ---- lists in order
 
 module _ (cmp : List ℕ → List ℕ → Ordering) where
@@ -182,7 +198,7 @@ module _ (cmp : List ℕ → List ℕ → Ordering) where
       by true n m e = omega arith
       by false n m e = refl
 
-  same_position : (pairs : List Pair) (at : Option ℕ) (move : Move)
+  pub same_position : (pairs : List Pair) (at : Option ℕ) (move : Move)
       → position_after cmp pairs at move ≡ moved_to cmp pairs at (walk_move_of move)
   same_position pairs at seek_to_first = refl
   same_position pairs None advance = refl
@@ -196,11 +212,12 @@ module _ (cmp : List ℕ → List ℕ → Ordering) where
   -- ---- moves
 
   -- what the rest of a walk returns
-  pub record WalkIsTold (pairs : List Pair) (at : Option ℕ) (moves : List Move)
+  pub record WalkIsTold (setting : Setting) (pairs : List Pair) (at : Option ℕ) (moves : List Move)
       (landings : List Landing) : Type 0 where
     pub results : List (Result (Option Pair) Why)
     pub told : AreResultsOf landings results
     pub are : AreMoves cmp pairs at (map walk_move_of moves) results
+    pub faults : Contains results (Err headline.device_failed) → HasFailed setting.before setting.after
 
   module _ (pairs : List Pair) where
     -- a move that is done
@@ -230,12 +247,72 @@ module _ (cmp : List ℕ → List ℕ → Ordering) where
         (move_caused setting old from all (seek key) refusal cause c, rest)
     failed_move setting old from all at reset moves refusal cause results c rest = absurd c
 
-    module _ (setting : Setting) (old : State) (from : Option Snapshot) (all : List Move)
+    -- a move that is told to have met a device's fault
+    device_met : (setting : Setting) (old : State) (request : Request) (refusal : Refusal)
+        (cause : Cause) → IsCausedBy setting old request refusal cause
+        → why_of cause ≡ headline.device_failed → HasFailed setting.before setting.after
+    device_met setting old request refusal device_failed c e = c.1
+    device_met setting old request refusal out_of_memory c e = absurd (cc)
+    device_met setting old request refusal lock_is_held c e = absurd (cc)
+    device_met setting old request refusal bad_operand c e = absurd (cc)
+    device_met setting old request refusal store_exists c e = absurd (cc)
+    device_met setting old request refusal used_up c e = absurd (cc)
+    device_met setting old request refusal too_large c e = absurd (cc)
+    device_met setting old request refusal compressor_failed c e = absurd (cc)
+    device_met setting old request refusal lacks_compressor c e = absurd (cc)
+
+    move_met : (setting : Setting) (old : State) (request : Request) (move : Move)
+        (refusal : Refusal) (cause : Cause) → IsMoveCausedBy setting old request move refusal cause
+        → why_of cause ≡ headline.device_failed → HasFailed setting.before setting.after
+    move_met setting old request reset refusal cause c e = absurd c
+    move_met setting old request move refusal bad_operand c e = absurd (cc)
+    move_met setting old request move refusal cause c e =
+        device_met setting old request refusal cause c e
+
+    -- counts of failed calls don't fall from one move to the next
+    moves_later : (old : State) (request : Request) (setting : Setting) (at : Option ℕ)
+        (moves : List Move) (landings : List Landing)
+        → Moves setting old request pairs at moves landings → setting.before ≤ setting.after
+    moves_later old request setting at [] [] m = omega (arith, m)
+    moves_later old request setting at [] (landing ∷ landings) m = absurd m
+    moves_later old request setting at (move ∷ moves) [] m = absurd m
+    moves_later old request setting at (move ∷ moves) (landing ∷ landings) m =
+        let later = moves_later old request (record setting { before = m.0 }) m.2 moves landings m.4 in
+        omega (arith, m.1, later)
+
+    -- a failure in the first of two spans, or in the second, is one of both
+    failed_first : (before mid after : ℕ) → mid ≤ after → HasFailed before mid → HasFailed before after
+    failed_first before mid after high (inl less) = inl (omega arith)
+    failed_first before mid after high (inr greatest) = inr greatest
+
+    failed_then : (before mid after : ℕ) → before ≤ mid → mid ≤ after → HasFailed mid after
+        → HasFailed before after
+    failed_then before mid after low high (inl less) = inl (omega arith)
+    failed_then before mid after low high (inr greatest) = ⊎_elim
+        (λ (same : before ≡ mid). inr (same ∙ greatest))
+        (λ (less : before < mid). inl (omega arith)) (eq-or-lt_of_le low)
+
+    module _ (setting : Setting) (mid : ℕ) (low : setting.before ≤ mid) (high : mid ≤ setting.after)
+        (old : State) (from : Option Snapshot) (all : List Move)
         (order : old.format.order ≡ cmp) where
+      -- what the first move met, or the rest
+      rest_faults : (first : Result (Option Pair) Why) (results : List (Result (Option Pair) Why))
+          → (first ≡ Err headline.device_failed → HasFailed setting.before mid)
+          → (Contains results (Err headline.device_failed) → HasFailed mid setting.after)
+          → Contains (first ∷ results) (Err headline.device_failed)
+          → HasFailed setting.before setting.after
+      rest_faults first results here later there = ⊎_elim
+          (λ (e : first ≡ Err headline.device_failed).
+          failed_first setting.before mid setting.after high (here e))
+          (λ (c : Contains results (Err headline.device_failed)).
+          failed_then setting.before mid setting.after low high (later c))
+          (in_cases first (Err headline.device_failed) results there)
+
       lands : (at next : Option ℕ) (move : Move) (moves : List Move) (landing : Landing)
-          (landings : List Landing) → MoveLands setting old (walk from all) pairs at move landing next
-          → WalkIsTold pairs next moves landings
-          → WalkIsTold pairs at (move ∷ moves) (landing ∷ landings)
+          (landings : List Landing)
+          → MoveLands (record setting { after = mid }) old (walk from all) pairs at move landing next
+          → WalkIsTold (record setting { before = mid }) pairs next moves landings
+          → WalkIsTold setting pairs at (move ∷ moves) (landing ∷ landings)
       lands at next move moves (stands_on pair) landings l rest =
           let next_is : next ≡ position_after cmp pairs at move =
           subst (λ o. next ≡ position_after o pairs at move) order l.1 in
@@ -246,6 +323,7 @@ module _ (cmp : List ℕ → List ℕ → Ordering) where
                 (sym l.2 ∙ ap (pair_at pairs) next_is)
                 (subst (λ n. AreMoves cmp pairs n (map walk_move_of moves) rest.results) next_is
                 rest.are);
+            faults = rest_faults (Ok (Some pair)) rest.results (λ e. absurd (cc)) rest.faults;
           }
       lands at next move moves nowhere landings l rest =
           let none_is : position_after cmp pairs at move ≡ None =
@@ -257,6 +335,7 @@ module _ (cmp : List ℕ → List ℕ → Ordering) where
                 (sym (ap (pair_at pairs) none_is))
                 (subst (λ n. AreMoves cmp pairs n (map walk_move_of moves) rest.results)
                 (l.2 ∙ sym none_is) rest.are);
+            faults = rest_faults (Ok None) rest.results (λ e. absurd (cc)) rest.faults;
           }
       lands at next move moves (move_refused refusal) landings l rest =
           record {
@@ -265,23 +344,29 @@ module _ (cmp : List ℕ → List ℕ → Ordering) where
               (
                 why_of l.0.0,
                 refl,
-                move_code setting old (walk from all) move refusal l.0.0 l.0.1,
+                move_code (record setting { after = mid }) old (walk from all) move refusal l.0.0
+                    l.0.1,
               ),
               rest.told,
             );
-            are = failed_move setting old from all at move moves refusal l.0.0 rest.results l.0.1
+            are = failed_move (record setting { after = mid }) old from all at move moves refusal
+                l.0.0 rest.results l.0.1
                 (subst (λ n. AreMoves cmp pairs n (map walk_move_of moves) rest.results) l.1 rest.are);
+            faults = rest_faults (Err (why_of l.0.0)) rest.results
+                (λ e. move_met (record setting { after = mid }) old (walk from all) move refusal l.0.0
+                l.0.1 (same_why (why_of l.0.0) headline.device_failed e)) rest.faults;
           }
 
     pub walk_told : (old : State) (from : Option Snapshot) (all : List Move)
         → old.format.order ≡ cmp → (setting : Setting) (at : Option ℕ) (moves : List Move)
         (landings : List Landing) → Moves setting old (walk from all) pairs at moves landings
-        → WalkIsTold pairs at moves landings
+        → WalkIsTold setting pairs at moves landings
     walk_told old from all order setting at [] [] m =
-        record { results = []; told = tt; are = tt }
+        record { results = []; told = tt; are = tt; faults = λ c. absurd (in_none _ c) }
     walk_told old from all order setting at [] (landing ∷ landings) m = absurd m
     walk_told old from all order setting at (move ∷ moves) [] m = absurd m
     walk_told old from all order setting at (move ∷ moves) (landing ∷ landings) m =
-        lands (record setting { after = m.0 }) old from all order at m.2 move moves landing landings
-        m.3
+        lands setting m.0 m.1
+        (moves_later old (walk from all) (record setting { before = m.0 }) m.2 moves landings m.4) old
+        from all order at m.2 move moves landing landings m.3
         (walk_told old from all order (record setting { before = m.0 }) m.2 moves landings m.4)

@@ -1,6 +1,5 @@
 -- What an opening that is refused under its lock leaves, before it gives the lock back: its store
 -- wasn't opened, or the compaction at its end broke it.
-use Rattle.std.specs.Prelude.{Result}
 use Rattle.std.proofs.Common.{◌≡◌, ◌∙◌, ◌⊎◌, ◌≤◌, ⊎_elim, inl, inr, Bool, List, ℕ, Ok, Err, IsTrue, arith, refl, subst, sym}
 use Rattle.leveldb_base.specs.declared.cmp.Cmp.{Ghosts as CmpGhosts}
 use Rattle.leveldb_base.specs.declared.cmp.internal.InternalKeyCmp.{InternalKeyCmp}
@@ -20,7 +19,7 @@ use Rattle.leveldb_store.proofs.Keeping.SoundLemmas.{failed_once}
 use Rattle.leveldb_store.specs.Tables.BuildTable.{TableChoices}
 use Rattle.leveldb_store.specs.Openings.EndsOpening.{EndsOpening}
 use Rattle.leveldb_store.specs.Keeping.KeptBytes.{LosesNoBytesMeanwhile, LosesNothing, TableNumbersAreBelow}
-use Rattle.leveldb_store.specs.Keeping.OpenStore.{IsUnbroken, OpenStoreValue}
+use Rattle.leveldb_store.specs.Keeping.OpenStore.{OpenStoreValue}
 use Rattle.leveldb_store.specs.Keeping.OpenTables.{AreOpenTablesOf}
 use Rattle.leveldb_store.specs.Openings.OpensStore.{FailsToOpen, IsForbidden, IsSound, KeepsFound, LacksCurrent, LacksUsableEdits, OpensStore, SameBesideOwn}
 use Rattle.leveldb_store.specs.Writing.Room.{FailsFor, HasFailed}

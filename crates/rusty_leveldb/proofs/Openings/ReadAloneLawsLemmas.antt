@@ -1,5 +1,5 @@
 -- Reading a store alone, beside opening it.
-use Rattle.std.proofs.Common.{◌≡◌, ap, subst, sym, Bool, List, ℕ}
+use Rattle.std.proofs.Common.{◌≡◌, subst, sym, Bool, List, ℕ}
 use Rattle.leveldb_env.specs.Env.{Files}
 use Rattle.leveldb_env.specs.Options.{Boxed, OptionsOf}
 use Rattle.leveldb_env.specs.declared.env.Env.{Ghosts}
@@ -8,7 +8,6 @@ use Rattle.leveldb_store.specs.Tables.BuildTable.{TableChoices}
 use Rattle.leveldb_files.specs.Histories.Holds.{Holds}
 use Rattle.leveldb_files.specs.Stores.Paths.{lock_path}
 use Rattle.leveldb_files.specs.Steps.StoreSteps.{AppendedAreBytes}
-use Rattle.leveldb_version.specs.Tables.TableCache.{files_at}
 use Rattle.rusty_leveldb.specs.Engines.Boxes.{InternalOrder}
 use Rattle.rusty_leveldb.specs.Openings.ReadAloneLaws.{ReadingKeepsStates, ReadsWhatOpens}
 use Rattle.rusty_leveldb.specs.Engines.Serves.{AreReadAs, Reads}

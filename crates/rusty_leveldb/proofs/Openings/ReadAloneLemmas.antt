@@ -1,6 +1,6 @@
 -- An engine that only reads: its look-ups and its walks in each history that it reads.
 use Rattle.std.specs.Prelude.{IfErr, IfOk, OnErr, OnOk, Result, map}
-use Rattle.std.proofs.Common.{◌≡◌, ◌≤◌, ◌+◌, ◌-◌, ◌^◌, ◌⊎◌, ◌∙◌, ⊎_elim, inl, inr, ℕ, Bool, List, [], refl, sym, ap, subst, arith, Option, None, Ok, Err, IsTrue}
+use Rattle.std.proofs.Common.{◌≡◌, ◌+◌, ◌-◌, ◌^◌, ◌⊎◌, ⊎_elim, inl, inr, ℕ, List, [], refl, sym, ap, subst, arith, Option, None, Ok, Err, IsTrue}
 use Rattle.leveldb_base.specs.Error.{IsOutOfMemory, text_of}
 use Rattle.leveldb_base.specs.History.{History, IsValueAt, IsView, entries_of, greatest}
 use Rattle.leveldb_base.specs.KeyTypes.{IsLongKey}
@@ -21,16 +21,15 @@ use Rattle.leveldb_store.specs.Reading.View.{IsOfNoCompressor, MakesMoves, Walks
 use Rattle.leveldb_store.specs.Keeping.Written.{HasView}
 use Rattle.leveldb_table.specs.TableBlock.{FailsFor as FailsForWhy, KeepsDisk}
 use Rattle.leveldb_files.specs.Stores.Format.{Agrees, Format, IsTableFault, LacksCompressor, Meaning}
-use Rattle.leveldb_version.specs.Tables.TableCache.{TableOptions, files_at, table_options}
+use Rattle.leveldb_version.specs.Tables.TableCache.{files_at, table_options}
 use Rattle.leveldb_version.specs.declared.table_cache.TableCache.{TableCache}
 use Rattle.rusty_leveldb.specs.Engines.Boxes.{InternalOrder, ReaderOf}
 use Rattle.rusty_leveldb.specs.Machines.Causes.{Cause, IsCausedBy, Setting, bad_operand, device_failed, lacks_compressor, out_of_memory}
 use Rattle.rusty_leveldb.specs.Machines.Machine.{Responds}
-use Rattle.rusty_leveldb.specs.Openings.ReadAlone.{AnswersAlone, LookUpExcused, ReaderGets, ReaderWalks, ReadsHistory, ReadsOnly, read_state, reader_options, reader_tables_by}
+use Rattle.rusty_leveldb.specs.Openings.ReadAlone.{LookUpExcused, ReaderGets, ReaderWalks, ReadsHistory, ReadsOnly, read_state, reader_options, reader_tables_by}
 use Rattle.rusty_leveldb.specs.Engines.Serves.{found_or, refusal_of, setting_between}
-use Rattle.rusty_leveldb.specs.Machines.State as machine
-use Rattle.rusty_leveldb.specs.Machines.State.{Answer, State, get, refused, walk, walked}
-use Rattle.rusty_leveldb.specs.Walks.Walks.{landing_of, move_of, walk_of, walked_or}
+use Rattle.rusty_leveldb.specs.Machines.State.{State, get, refused}
+use Rattle.rusty_leveldb.specs.Walks.Walks.{move_of, walk_of, walked_or}
 use Rattle.rusty_leveldb.proofs.Engines.ReadingLemmas.{only_seeks, shows_read}
 use Rattle.rusty_leveldb.proofs.Walks.WalkLemmas.{moves_are}
 

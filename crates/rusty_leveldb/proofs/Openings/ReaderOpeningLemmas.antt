@@ -1,6 +1,5 @@
 -- An opening of a store to be read alone, by an engine that only reads.
-use Rattle.std.specs.Prelude.{Result}
-use Rattle.std.proofs.Common.{◌≡◌, ◌≢◌, ◌≤◌, ◌+◌, ◌⊎◌, ◌∙◌, ⊎_elim, inl, inr, ℕ, Bool, true, false, List, refl, sym, ap, subst, arith, Option, Some, None, Ok, Err, IsTrue}
+use Rattle.std.proofs.Common.{◌≡◌, ◌≢◌, ◌≤◌, ◌+◌, ◌⊎◌, ◌∙◌, ⊎_elim, inl, inr, ℕ, List, refl, sym, ap, subst, arith, Option, Some, None, Ok, Err, IsTrue}
 use Rattle.std.specs.declared.cmp.Ordering.{Ordering}
 use Rattle.leveldb_base.specs.Error.{IsOutOfMemory, text_of}
 use Rattle.leveldb_base.specs.History.{History, count_of, entries_of, greatest, with_batch}
@@ -17,8 +16,7 @@ use Rattle.leveldb_files.specs.Stores.Store.{IsStore}
 use Rattle.leveldb_version.specs.Tables.TableCache.{IsNewTableCache, MatchesFiles, TableOptions, files_at}
 use Rattle.leveldb_version.specs.declared.table_cache.TableCache.{TableCache}
 use Rattle.leveldb_store.specs.Keeping.OpenStore.{OpenStoreValue}
-use Rattle.leveldb_store.specs.Keeping.OpenTables.{AreOpenTablesOf}
-use Rattle.leveldb_store.specs.Openings.OpensStore.{IsOrderFor, LacksUsableEdits}
+use Rattle.leveldb_store.specs.Openings.OpensStore.{LacksUsableEdits}
 use Rattle.leveldb_store.specs.Openings.OpensToRead.{FailsToOpenToRead, IsReadAs, IsUnreadable, OpensToRead, WhyNotReadable}
 use Rattle.leveldb_store.specs.Writing.Room.{HasFailed}
 use Rattle.leveldb_store.specs.Keeping.Written.{HasView}

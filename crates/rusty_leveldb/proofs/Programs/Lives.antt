@@ -1,6 +1,6 @@
 -- Lives of a store, one after another: they are one run of the machine if each crash was honest.
 use Rattle.std.proofs.Common.{◌≡◌, ◌≤◌, ◌+◌, ◌-◌, ◌%◌, ◌/◌, ◌==◌, inl, inr, ⊎_elim, ℕ, suc, Bool, true, false, List, [], ◌∷◌, ◌++◌, refl, sym, ◌∙◌, ap, subst, arith, Option, Some, None, Ok, Err, IsTrue}
-use Rattle.std.specs.Prelude.{◌↔◌, ◌⊎◌, ◌&&◌, All, map, Vec}
+use Rattle.std.specs.Prelude.{◌↔◌, ◌⊎◌, All, map, Vec}
 use Rattle.std.specs.declared.alloc.Global.{Global}
 use Rattle.leveldb_base.specs.declared.cmp.Cmp.{Ghosts as CmpGhosts}
 use Rattle.leveldb_env.specs.declared.compressor.CompressorList.{CompressorList}
@@ -29,10 +29,13 @@ use Rattle.leveldb_files.specs.Steps.StoreSteps.{AppendedAreBytes}
 use Rattle.rusty_leveldb.specs.Machines.Runs as machine
 use Rattle.rusty_leveldb.specs.Machines.Runs.{Event, RunsEvents, CrashBefore, last_moment, StopsAt, LifeLeads, Lives, new_state}
 use Rattle.rusty_leveldb.specs.Engines.Serves.{StandsFor, Represents, recalls_nothing, IsBetweenCalls, IsConversation}
-use Rattle.rusty_leveldb.specs.Engines.Engine.{IsStoreName, IsOpening, opening_of}
+use Rattle.rusty_leveldb.specs.Engines.Engine.{IsStoreName, opening_of}
 use Rattle.rusty_leveldb.specs.Programs.Lives.{IsLife, with_name, ending_of, IsCrash, IsHonestCrash, IsNextDevice, IsReportOf, IsLifeOn, AreReports, AreReportsFromNone, IsLifeOf, AreLivesOf, AreOneRun, HasNoCrash, ReportsLives}
 use Rattle.leveldb_files.proofs.Histories.SafeLemmas.{front_honest}
 use Rattle.rusty_leveldb.proofs.Engines.ReadsLemmas.{nothing_stands}
+use Rattle.rusty_leveldb.specs.Programs.Story.{AreOneStory, HaveNoTails}
+use Rattle.rusty_leveldb.proofs.Programs.Meanings.{opens_so}
+use Rattle.rusty_leveldb.proofs.Programs.Storied.{one_story}
 use Rattle.leveldb_env.specs.Options.{Boxed}
 use Rattle.rusty_leveldb.specs.Engines.Boxes.{InternalOrder, LifeOf}
 use Rattle.leveldb_files.specs.Stores.Format.{Meaning, Agrees, format_of}
@@ -92,24 +95,6 @@ same_disk device from same = λ i. record { files = same.files i; locked = same.
 -- the disk represents a state
 abbrev pub Stands : List ℕ → Meaning → RecordEnv → State → Type 0
 Stands store meaning device old = Represents store meaning recalls_nothing None (record_observed device).disk old
-
--- both of two
-and_both : (a b : Bool) → IsTrue (a && b) → IsTrue a × IsTrue b
-and_both true b is = (refl, is)
-and_both false b is = let never : false ≡ true = is in absurd (cc)
-
-and_true : (a b : Bool) → IsTrue a → IsTrue b → IsTrue (a && b)
-and_true true b is also = also
-and_true false b is also = is
-
-opens_so : (store : List ℕ) (fits : Bool) (wanted : Opening) → (IsTrue fits ↔ IsStoreName store) → IsOpening store wanted (with_name fits wanted)
-opens_so store fits wanted name_fits = record {
-  same = refl;
-  fits = (
-    λ is. let both = and_both fits wanted.fits is in (name_fits.0 both.0, both.1),
-    λ both. and_true fits wanted.fits (name_fits.1 both.0) both.1,
-  );
-}
 
 module _ {C FP : Type 0} {B : Boxed} (cmp : CmpGhosts C) (filters : FilterGhosts FP) (codings : CompressorList B.compressors B.compressor → Codings) (keys : InternalOrder C) (key_filters : FilterGhosts FP) (store : List ℕ) (fits : Bool) (meaning : Meaning) where
   abbrev RunFrom : List (LifeOf C FP B) → List Report → RecordEnv → State → Type 0
@@ -232,16 +217,26 @@ module _ {C FP : Type 0} {B : Boxed} (cmp : CmpGhosts C) (filters : FilterGhosts
 
   -- ---- what is returned
 
+  story : (lives : List (LifeOf C FP B)) (reports : List Report) → AreReportsFromNone ghosts cmp filters codings keys key_filters store (IsHonestCrash store) lives reports → AreOneStory cmp filters codings lives reports
+  story lives reports are = one_story ghosts cmp filters codings keys key_filters store lives reports (one_run lives reports are)
+
+  kept : (lives : List (LifeOf C FP B)) (reports : List Report) → AreReportsFromNone ghosts cmp filters codings keys key_filters store IsCrash lives reports → HaveNoTails lives → AreReportsFromNone ghosts cmp filters codings keys key_filters store (IsHonestCrash store) lives reports
+  kept lives reports are none = (are.0, record { first = are.1.first; empty = are.1.empty; fresh = are.1.fresh; reports_are = honest_lives are.1.first lives reports are.0 none are.1.reports_are })
+
   pub all_reported : (lives : List (LifeOf C FP B)) (reports : Vec Report Global) → AreReportsFromNone ghosts cmp filters codings keys key_filters store IsCrash lives reports.items → ReportsLives ghosts cmp filters codings keys key_filters store lives (Ok reports)
   all_reported lives reports are = record {
+    story = story lives reports.items;
     reports = are;
     run = one_run lives reports.items;
-    kept = λ none. (are.0, record { first = are.1.first; empty = are.1.empty; fresh = are.1.fresh; reports_are = honest_lives are.1.first lives reports.items are.0 none are.1.reports_are });
+    kept = kept lives reports.items are;
     error = tt;
   }
 
+  pub story_reported : (lives : List (LifeOf C FP B)) (reports : List Report) → AreReportsFromNone ghosts cmp filters codings keys key_filters store IsCrash lives reports → HaveNoTails lives → AreOneStory cmp filters codings lives reports
+  story_reported lives reports are none = story lives reports (kept lives reports are none)
+
   pub fails_for : (lives : List (LifeOf C FP B)) (e : Status) → IsOutOfMemory e ⊎ ((e.code ≡ InvalidArgument) × HasNoCrash ghosts cmp filters codings keys key_filters store lives) → ReportsLives ghosts cmp filters codings keys key_filters store lives (Err e)
-  fails_for lives e cause = record { reports = tt; run = tt; kept = tt; error = cause }
+  fails_for lives e cause = record { story = tt; reports = tt; run = tt; kept = tt; error = cause }
 
 -- the device that comes next, by whether the life has a crash
 pub next_crash : (Crash : RecordEnv → ℕ → Pick → RecordEnv → Type 0) (start at moment : ℕ) (was : Option ℕ) (pick : Pick) (to left end : RecordEnv) → was ≡ Some moment → at ≡ start → end ≡ left → Crash to (at + moment) pick left → IsNextDevice Crash start was pick to end

@@ -1,25 +1,22 @@
 -- Runs of commands over a store that is read alone.
-use Rattle.std.specs.Prelude.{OnErr, OnOk, Result, Vec}
+use Rattle.std.specs.Prelude.{Result, Vec}
 use Rattle.std.specs.declared.alloc.Global.{Global}
-use Rattle.std.proofs.Common.{◌≡◌, ◌≤◌, ◌⊎◌, ◌∙◌, ⊎_elim, ℕ, Bool, List, [], ◌∷◌, ◌++◌, refl, sym, ap, subst, arith, Option, None, Some, Ok, Err, IsTrue}
+use Rattle.std.proofs.Common.{◌≡◌, ◌≤◌, ◌∙◌, ℕ, List, [], ◌∷◌, ◌++◌, refl, sym, ap, subst, Option, None, Ok, Err, IsTrue}
 use Rattle.leveldb_base.specs.History.{History}
 use Rattle.leveldb_base.specs.declared.error.Status.{Status}
 use Rattle.leveldb_env.proofs.EnvLemmas.{Run-trans}
-use Rattle.leveldb_env.specs.Env.{Files}
 use Rattle.leveldb_env.specs.Options.{Boxed, OptionsOf}
 use Rattle.leveldb_env.specs.declared.env.Env.{Ghosts}
 use Rattle.leveldb_iter.specs.declared.moves.Move.{Move}
 use Rattle.leveldb_store.specs.Keeping.OpenStore.{OpenStoreValue}
-use Rattle.leveldb_table.specs.TableBlock.{KeepsDisk}
 use Rattle.leveldb_files.proofs.Stores.BatchesLemmas.{each_more}
 use Rattle.leveldb_files.specs.Stores.Batches.{Each}
-use Rattle.leveldb_files.specs.Stores.Format.{Agrees, Format, Meaning}
+use Rattle.leveldb_files.specs.Stores.Format.{Format, Meaning}
 use Rattle.leveldb_version.specs.Tables.TableCache.{files_at}
 use Rattle.rusty_leveldb.specs.Engines.Boxes.{InternalOrder, ReaderOf}
-use Rattle.rusty_leveldb.specs.Openings.ReadAlone.{AnswersAlone, FindsHistory, ReaderGets, ReaderOpens, ReadsHistory, ReadsOnly, opened_state, read_state, reader_options}
-use Rattle.rusty_leveldb.specs.Machines.Causes.{Setting}
+use Rattle.rusty_leveldb.specs.Openings.ReadAlone.{AnswersAlone, ReaderGets, ReaderOpens, ReadsHistory, ReadsOnly, opened_state, read_state, reader_options}
 use Rattle.rusty_leveldb.specs.Programs.RunAlone.{AreAnsweredAlone, HasReadAlone, IsAnsweredAlone, ReaderAnswers, RefusesOthers}
-use Rattle.rusty_leveldb.specs.Engines.Serves.{StandsFor, found_or, setting_between}
+use Rattle.rusty_leveldb.specs.Engines.Serves.{found_or, setting_between}
 use Rattle.rusty_leveldb.specs.Programs.Shell.{IsReplyOf}
 use Rattle.rusty_leveldb.specs.Machines.State.{Answer, Opening, State}
 use Rattle.rusty_leveldb.specs.Walks.Walks.{walk_of}

@@ -1,6 +1,6 @@
 -- Files that are kept to be charged: at most 4096.
 use Rattle.std.specs.Prelude.{take}
-use Rattle.std.proofs.Common.{◌≡◌, ◌∙◌, ◌<◌, ◌+◌, ◌++◌, ◌∷◌, [], ℕ, List, arith, length}
+use Rattle.std.proofs.Common.{◌≡◌, ◌∙◌, ◌<◌, ◌++◌, ◌∷◌, [], ℕ, List, arith, length}
 use Rattle.std.proofs.lemmas.List.{length-append, take-append-le, take_all}
 use Rattle.leveldb_files.specs.Edits.Edit.{LevelFile}
 use Rattle.rusty_leveldb.specs.Walks.ReadSamples.{SamplesValue}

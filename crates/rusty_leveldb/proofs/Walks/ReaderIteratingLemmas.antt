@@ -17,7 +17,6 @@ use Rattle.leveldb_files.specs.Stores.Format.{Agrees, Format, IsTableFault, Mean
 use Rattle.leveldb_version.specs.Tables.TableCache.{TableOptions, files_at}
 use Rattle.leveldb_version.specs.declared.table_cache.TableCache.{TableCache}
 use Rattle.leveldb_version.specs.declared.table_cache.moves.ReadTables.{ReadTables}
-use Rattle.leveldb_store.specs.Keeping.OpenStore.{OpenStoreValue}
 use Rattle.leveldb_store.specs.Reading.Read.{HasOpenTables}
 use Rattle.leveldb_store.specs.Reading.View.{FailsBetween, IsOfNoCompressor, IsWorldOf, ShowsIn, options_in}
 use Rattle.leveldb_store.specs.Keeping.Written.{HasView}

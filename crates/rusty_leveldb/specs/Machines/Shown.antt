@@ -1,14 +1,16 @@
 -- The machine is maps: how a state shows the store of the headline, and that its runs are stories.
-use Rattle.std.specs.Prelude.{◌≡◌, ◌≤◌, ◌<◌, ◌⊎◌, ◌↔◌, ℕ, List, [], ◌∷◌, ◌++◌, map, length, take, option_map, option_to_list, Option, Some, None, Result, Ok, Err, All}
+use Rattle.std.specs.Prelude.{◌≡◌, ◌≤◌, ◌<◌, ◌⊎◌, ◌↔◌, ℕ, List, [], ◌∷◌, ◌++◌, map, length, take, option_map, option_to_list, Option, Some, None, Result, Ok, Err, All, Contains}
 use Rattle.std.specs.declared.cmp.Ordering.{Ordering}
+use Rattle.leveldb_base.specs.declared.error.StatusCode.{StatusCode}
 use Rattle.leveldb_base.specs.declared.error.StatusCode.TheVariants.{OutOfMemory, LockError, InvalidArgument, AlreadyExists, NotSupported}
 use Rattle.leveldb_base.specs.Cmp.{IsExactOrder}
 use Rattle.leveldb_base.specs.History.{Item, Entry, History, entries_of, with_batch, AreUpTo, HasValueAt, IsFoundSet}
 use Rattle.leveldb_files.specs.Stores.Format.{Format, Meaning}
+use Rattle.leveldb_store.specs.Writing.Room.{HasFailed}
 use Rattle.rusty_leveldb.specs.Headline as headline
 use Rattle.rusty_leveldb.specs.Headline.{Batch, Map, map_of, StoreMode, is_open, is_broken, is_closed, UserStore, fresh_store, WalkMove, Call, Why, CallOutcome, barred, failed, CallRow, returned, crash, IsStory}
-use Rattle.rusty_leveldb.specs.Machines.State.{Mode, open_mode, broken, closed, Snapshot, State, IsState, Move, seek_to_first, advance, prev, seek, reset, Request, open_store, write, get, walk, get_snapshot, release_snapshot, flush, compact_range, close, abandon, Refusal, Landing, stands_on, nowhere, move_refused, Answer, done, found, walked, snapshot, refused}
-use Rattle.rusty_leveldb.specs.Machines.Causes.{Setting, IsClosedRefusal, IsBrokenRefusal}
+use Rattle.rusty_leveldb.specs.Machines.State.{Mode, open_mode, broken, closed, Snapshot, State, IsState, Move, seek_to_first, advance, prev, seek, reset, Request, open_store, write, get, walk, get_snapshot, release_snapshot, flush, compact_range, close, abandon, Landing, stands_on, nowhere, move_refused, Answer, done, found, walked, snapshot, refused}
+use Rattle.rusty_leveldb.specs.Machines.Causes.{Setting, IsClosedRefusal, IsBrokenRefusal, CompressorFails, block_format}
 use Rattle.rusty_leveldb.specs.Machines.Machine.{Step}
 use Rattle.rusty_leveldb.specs.Machines.Runs.{Event, Ending, goes_on, crashes, Life, Lives, new_state}
 use Rattle.rusty_leveldb.specs.Repairs.Repair.{repaired_state}
@@ -52,20 +54,21 @@ IsCallOf (release_snapshot one) (refused refusal) call =
 IsCallOf request answer call = call ≡ call_of request
 
 -- the code of a failure; a failed call of the device and a compressor choose theirs
-abbrev pub HasCode : Why → Refusal → Type 0
-HasCode headline.out_of_memory refusal = refusal.code ≡ OutOfMemory
-HasCode headline.device_failed refusal = Unit {0}
-HasCode headline.lock_is_held refusal = refusal.code ≡ LockError
-HasCode headline.bad_argument refusal = refusal.code ≡ InvalidArgument
-HasCode headline.store_exists refusal = refusal.code ≡ AlreadyExists
-HasCode headline.not_supported refusal = refusal.code ≡ NotSupported
-HasCode headline.compressor_failed refusal = Unit {0}
+abbrev pub HasCode : Why → StatusCode → Type 0
+HasCode headline.out_of_memory code = code ≡ OutOfMemory
+HasCode headline.device_failed code = Unit {0}
+HasCode headline.lock_is_held code = code ≡ LockError
+HasCode headline.bad_argument code = code ≡ InvalidArgument
+HasCode headline.store_exists code = code ≡ AlreadyExists
+HasCode headline.not_supported code = code ≡ NotSupported
+HasCode headline.compressor_failed code = Unit {0}
 
 -- what a move of a walk returns
 abbrev pub IsResultOf : Landing → Result (Option headline.Pair) Why → Type 0
 IsResultOf (stands_on pair) result = result ≡ Ok (Some pair)
 IsResultOf nowhere result = result ≡ Ok None
-IsResultOf (move_refused refusal) result = (why : Why) × (result ≡ Err why) × HasCode why refusal
+IsResultOf (move_refused refusal) result =
+    (why : Why) × (result ≡ Err why) × HasCode why refusal.code
 
 -- each in turn
 abbrev pub AreResultsOf : List Landing → List (Result (Option headline.Pair) Why) → Type 0
@@ -84,7 +87,22 @@ IsOutcomeOf (snapshot one) outcome = outcome ≡ headline.snapshot one.number
 IsOutcomeOf (refused refusal) outcome =
     ((outcome ≡ barred is_closed) × IsClosedRefusal refusal)
     ⊎ ((outcome ≡ barred is_broken) × IsBrokenRefusal refusal)
-    ⊎ ((why : Why) × (outcome ≡ failed why) × HasCode why refusal)
+    ⊎ ((why : Why) × (outcome ≡ failed why) × HasCode why refusal.code)
+
+-- A fault that is told of has come: a call of the device failed between these counts, in a move of a
+-- walk too, or a compressor failed, which is said so.
+abbrev pub HasFault : Type 0 → ℕ → ℕ → CallOutcome → Type 0
+HasFault Encodes before after (failed headline.device_failed) = HasFailed before after
+HasFault Encodes before after (failed headline.compressor_failed) = Encodes
+HasFault Encodes before after (headline.walked results) =
+    Contains results (Err headline.device_failed) → HasFailed before after
+HasFault Encodes before after outcome = Unit {0}
+
+-- a compressor failed with the code of a refusal as the request wrote a block
+abbrev pub IsEncodingFault : State → Request → Answer → Type 0
+IsEncodingFault old request (refused refusal) =
+    CompressorFails (block_format old request) refusal.code
+IsEncodingFault old request answer = ⊥
 
 -- ---- the store that a state shows
 
@@ -191,13 +209,14 @@ abbrev pub AreOpenedIn : (List ℕ → List ℕ → Ordering) → List Life → 
 AreOpenedIn cmp lives = All (λ life. All (λ event. IsOpenedIn cmp event.request) life.events) lives
 
 -- a step of the machine is a row of the headline, between stores that the states show
-pub record IsRowOf (cmp : List ℕ → List ℕ → Ordering) (store : UserStore) (request : Request)
-    (answer : Answer) (new : State) : Type 0 where
+pub record IsRowOf (cmp : List ℕ → List ℕ → Ordering) (setting : Setting) (old : State)
+    (store : UserStore) (request : Request) (answer : Answer) (new : State) : Type 0 where
   pub call : Call
   pub outcome : CallOutcome
   pub next : UserStore
   pub asked : IsCallOf request answer call
   pub told : IsOutcomeOf answer outcome
+  pub faults : HasFault (IsEncodingFault old request answer) setting.before setting.after outcome
   pub row : CallRow cmp store.mode store call outcome next
   pub shown : IsShownAs new next
 
@@ -206,7 +225,7 @@ abbrev pub StepsAreRows : Type 0
 StepsAreRows = (cmp : List ℕ → List ℕ → Ordering) (setting : Setting) (old new : State)
     (request : Request) (answer : Answer) (store : UserStore)
     → IsState old → IsShownAs old store → old.format.order ≡ cmp
-    → Step old.mode setting old request answer new → IsRowOf cmp store request answer new
+    → Step old.mode setting old request answer new → IsRowOf cmp setting old store request answer new
 
 -- so lives from a state on, with their crashes, are told by a story from the store that it shows
 abbrev pub LivesAreStories : Type 0

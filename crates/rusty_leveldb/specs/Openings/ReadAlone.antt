@@ -21,12 +21,12 @@ use Rattle.leveldb_iter.specs.declared.walk.Walk.{Ghosts as WalkGhosts}
 use Rattle.leveldb_store.specs.Keeping.OpenTables.{AreOpenTablesOf}
 use Rattle.leveldb_store.specs.Reading.Read.{GetsFromMemory, GetsFromTables}
 use Rattle.leveldb_store.specs.Writing.Room.{FailsFor}
-use Rattle.leveldb_store.specs.Reading.View.{MoveFails, WalksStore}
+use Rattle.leveldb_store.specs.Reading.View.{MoveFails}
 use Rattle.leveldb_store.specs.Keeping.Written.{HasView}
 use Rattle.leveldb_table.specs.TableBlock.{KeepsDisk}
 use Rattle.leveldb_files.specs.Stores.Batches.{Each}
 use Rattle.leveldb_files.specs.Stores.Contents.{made}
-use Rattle.leveldb_files.specs.Stores.Format.{Agrees, Format, IsTableFault, LacksCompressor, Meaning, format_of}
+use Rattle.leveldb_files.specs.Stores.Format.{Agrees, Format, IsTableFault, Meaning, format_of}
 use Rattle.leveldb_files.specs.Stores.Paths.{current_path}
 use Rattle.leveldb_files.specs.Stores.Store.{HasEdits}
 use Rattle.leveldb_files.specs.Edits.Edit.{Edit}

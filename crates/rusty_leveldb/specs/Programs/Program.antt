@@ -37,6 +37,7 @@ use Rattle.rusty_leveldb.specs.Repairs.Repair.{Repairs}
 use Rattle.rusty_leveldb.specs.Programs.RunAlone.{HasReadAlone}
 use Rattle.rusty_leveldb.specs.Programs.RunCalls.{RunsByCalls}
 use Rattle.rusty_leveldb.specs.Programs.Shell.{HasRun}
+use Rattle.rusty_leveldb.specs.Programs.Story.{IsRunStory}
 
 -- The arguments name a folder, and what is done there: a single one is the folder, after
 -- `--read-only` its store is read alone, and after `--repair` it is repaired.
@@ -204,13 +205,14 @@ module _ {E F : Type 0} (env : Ghosts E F) where
 
 module _ {E F S : Type 0} {sink : S → Type 0} (env : Ghosts E F) (log : Option (Logger S sink))
   where
-    -- The program ran commands over the store in a folder. Where that isn't read alone, each command
-    -- is one call of the engine that the calls before it left, and its reply tells that call's
-    -- result: so a refusal has the call's own reason.
+    -- The program ran commands over the store in a folder. Where that isn't read alone, the replies
+    -- are a story of the headline; and each command is one call of the engine that the calls before
+    -- it left, and its reply tells that call's result: so a refusal has the call's own reason.
     abbrev pub HasPlayed : Way → List ℕ → List Command → E → List Reply → Result (Unit {0}) Status
         → E → Type 0
     HasPlayed one folder commands from given ended to =
-        HasRunBy env one folder ldb_opening commands from given ended to
+        OnWhole one (IsRunStory env bytewise commands from given ended to)
+        × HasRunBy env one folder ldb_opening commands from given ended to
         × OnWhole one (RunsByDefault (ldb_boxes S sink) log env folder commands from given ended to)
 
     -- the commands were run in a folder, each was replied to, and the output grew by the replies'

@@ -1,6 +1,5 @@
 -- What a run of commands does over a store that is read alone.
-use Rattle.std.specs.Prelude.{◌≡◌, ◌≤◌, ◌⊎◌, ℕ, List, [], ◌∷◌, None, Result, IfErr, OnErr, OnOk, IsTrue}
-use Rattle.leveldb_base.specs.Error.{IsOutOfMemory}
+use Rattle.std.specs.Prelude.{◌≡◌, ◌≤◌, ℕ, List, [], ◌∷◌, None, Result, OnErr, OnOk, IsTrue}
 use Rattle.leveldb_base.specs.History.{History}
 use Rattle.leveldb_base.specs.declared.error.Status.{Status}
 use Rattle.leveldb_base.specs.declared.error.StatusCode.TheVariants.{InvalidArgument}

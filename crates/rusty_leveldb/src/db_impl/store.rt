@@ -1,9 +1,14 @@
 //! The public store: an engine beside a borrow of its environment, which each call gives to it.
 // LevelDB: include/leveldb/db.h
-ghost use Rattle.std.specs.Prelude.{◌≡◌, ◌∷◌, ◌++◌, List, [], Some, None, false, IfOk};
+ghost use Rattle.std.specs.Prelude.{◌≡◌, ◌∷◌, ◌++◌, List, [], Some, None, false, IfOk, map};
 ghost use Rattle.std.specs.Option.{option_map};
 ghost use Rattle.leveldb_mem.specs.WriteBatch.{item_of};
 ghost use Rattle.rusty_leveldb.specs.Engines.Serves.{snapshot_of};
+ghost use Rattle.rusty_leveldb.specs.Engines.Witness.{iterating_in, shown_by};
+ghost use Rattle.rusty_leveldb.specs.Headline as headline;
+ghost use Rattle.rusty_leveldb.specs.Machines.Shown.{changes_of, snapshot_number, walk_move_of};
+ghost use Rattle.rusty_leveldb.specs.Says.{DoneOr, FoundOr, Says, SaysAbandoned, SaysOpened};
+ghost use Rattle.rusty_leveldb.specs.Says.{SaysIterated, SaysReleased, SnapshotOr, WalkedOr};
 ghost use Rattle.rusty_leveldb.specs.Engines.Engine.{opening_of};
 ghost use Rattle.leveldb_store.specs.Tables.BuildTable.{choices_of};
 ghost use Rattle.leveldb_files.specs.Stores.Format.{format_of};
@@ -11,6 +16,7 @@ ghost use Rattle.rusty_leveldb.specs.Engines.Calls.{EngineAbandons, EngineCloses
 ghost use Rattle.rusty_leveldb.specs.Engines.Calls.{EngineHolds, EngineOpens, EngineReleases, EngineWalks};
 ghost use Rattle.rusty_leveldb.specs.Engines.Calls.{EngineWrites, result_map};
 ghost use Rattle.rusty_leveldb.specs.Walks.Iterator.{EngineIterates};
+ghost use Rattle.rusty_leveldb.specs.Walks.Walks.{move_of};
 
 use super::engine::Engine;
 use crate::db_iter::{DBIterator, StoreTables};
@@ -105,6 +111,11 @@ impl<'e, E: Env, C: UserCmp + Copy, FP: FilterPolicy + Copy> Store<'e, E, Engine
         env: &'e mut E,
         options: Options<C, FP>,
     ) -> Result<DB<'e, E, C, FP>>
+        ensures says { let codings = ⟦<CompressorList as Compressors>⟧.codings in
+            (left : E) × IfOk result (λ db. db.env.now ≡ left)
+            × SaysOpened E.Env (shown_by ⟦<InternalKeyCmp<C> as Cmp>⟧ E.Env C.Cmp FP.FilterPolicy
+            codings) name.now (format_of C.Cmp FP.FilterPolicy codings options) env.old
+            (result_map (λ db. db.state) result) left }
         ensures same_reference { IfOk result (λ db. db.env.ghost_name ≡ env.entry.ghost_name) }
         ensures opens { let codings = ⟦<CompressorList as Compressors>⟧.codings in
             (left : E) × IfOk result (λ db. db.env.now ≡ left)
@@ -124,6 +135,11 @@ impl<'e, E: Env, C: UserCmp + Copy, FP: FilterPolicy + Copy> Store<'e, E, Engine
     /// change may be found when it is opened again (`NotWritten`).
     /// Crash: the latest changes may be lost, up to those that are durable.
     pub fn put(&mut self, key: &[u8], value: &[u8]) -> Result<()>
+        ensures says { let codings = ⟦<CompressorList as Compressors>⟧.codings in
+            Says E.Env (shown_by ⟦<InternalKeyCmp<C> as Cmp>⟧ E.Env C.Cmp FP.FilterPolicy codings)
+            self.old.state self.old.env.now
+            (headline.write (record { key = key.now; value = Some value.now } ∷ []) false)
+            (DoneOr result) self.new.state self.new.env.now }
         ensures same_reference { self.new.env.ghost_name ≡ self.old.env.ghost_name }
         ensures serves { let choices = choices_of C.Cmp FP.FilterPolicy
             ⟦<InternalKeyCmp<C> as Cmp>⟧ ⟦<InternalFilterPolicy<FP> as FilterPolicy>⟧
@@ -141,6 +157,11 @@ impl<'e, E: Env, C: UserCmp + Copy, FP: FilterPolicy + Copy> Store<'e, E, Engine
     /// change may be found when it is opened again (`NotWritten`).
     /// Crash: the latest changes may be lost, up to those that are durable.
     pub fn delete(&mut self, key: &[u8]) -> Result<()>
+        ensures says { let codings = ⟦<CompressorList as Compressors>⟧.codings in
+            Says E.Env (shown_by ⟦<InternalKeyCmp<C> as Cmp>⟧ E.Env C.Cmp FP.FilterPolicy codings)
+            self.old.state self.old.env.now
+            (headline.write (record { key = key.now; value = None } ∷ []) false) (DoneOr result)
+            self.new.state self.new.env.now }
         ensures same_reference { self.new.env.ghost_name ≡ self.old.env.ghost_name }
         ensures serves { let choices = choices_of C.Cmp FP.FilterPolicy
             ⟦<InternalKeyCmp<C> as Cmp>⟧ ⟦<InternalFilterPolicy<FP> as FilterPolicy>⟧
@@ -163,6 +184,10 @@ impl<'e, E: Env, C: UserCmp + Copy, FP: FilterPolicy + Copy> Store<'e, E, Engine
     /// when it is opened again (`NotWritten`).
     /// Crash: the latest batches may be lost, each whole, up to those that are durable.
     pub fn write(&mut self, batch: WriteBatch, sync: bool) -> Result<()>
+        ensures says { let codings = ⟦<CompressorList as Compressors>⟧.codings in
+            Says E.Env (shown_by ⟦<InternalKeyCmp<C> as Cmp>⟧ E.Env C.Cmp FP.FilterPolicy codings)
+            self.old.state self.old.env.now (headline.write (changes_of batch.items) sync)
+            (DoneOr result) self.new.state self.new.env.now }
         ensures same_reference { self.new.env.ghost_name ≡ self.old.env.ghost_name }
         ensures serves { let choices = choices_of C.Cmp FP.FilterPolicy
             ⟦<InternalKeyCmp<C> as Cmp>⟧ ⟦<InternalFilterPolicy<FP> as FilterPolicy>⟧
@@ -180,6 +205,10 @@ impl<'e, E: Env, C: UserCmp + Copy, FP: FilterPolicy + Copy> Store<'e, E, Engine
     /// (`NotFlushed`).
     /// Crash: the latest batches may be lost, up to those that were durable before.
     pub fn flush(&mut self) -> Result<()>
+        ensures says { let codings = ⟦<CompressorList as Compressors>⟧.codings in
+            Says E.Env (shown_by ⟦<InternalKeyCmp<C> as Cmp>⟧ E.Env C.Cmp FP.FilterPolicy codings)
+            self.old.state self.old.env.now headline.flush (DoneOr result)
+            self.new.state self.new.env.now }
         ensures same_reference { self.new.env.ghost_name ≡ self.old.env.ghost_name }
         ensures serves { let choices = choices_of C.Cmp FP.FilterPolicy
             ⟦<InternalKeyCmp<C> as Cmp>⟧ ⟦<InternalFilterPolicy<FP> as FilterPolicy>⟧
@@ -201,6 +230,10 @@ impl<'e, E: Env, C: UserCmp + Copy, FP: FilterPolicy + Copy> Store<'e, E, Engine
     /// (`NotCompacted`). If it isn't, a part may be done, and the next call goes on from there.
     /// Crash: the latest batches may be lost, up to those that are durable.
     pub fn compact_range(&mut self, from: &[u8], to: &[u8]) -> Result<()>
+        ensures says { let codings = ⟦<CompressorList as Compressors>⟧.codings in
+            Says E.Env (shown_by ⟦<InternalKeyCmp<C> as Cmp>⟧ E.Env C.Cmp FP.FilterPolicy codings)
+            self.old.state self.old.env.now headline.compact_range (DoneOr result)
+            self.new.state self.new.env.now }
         ensures same_reference { self.new.env.ghost_name ≡ self.old.env.ghost_name }
         ensures serves { let choices = choices_of C.Cmp FP.FilterPolicy
             ⟦<InternalKeyCmp<C> as Cmp>⟧ ⟦<InternalFilterPolicy<FP> as FilterPolicy>⟧
@@ -217,6 +250,10 @@ impl<'e, E: Env, C: UserCmp + Copy, FP: FilterPolicy + Copy> Store<'e, E, Engine
     /// Err: nothing changes (`StaysAsItWas`).
     /// Crash: as without this call.
     pub fn get(&mut self, key: &[u8]) -> Result<Option<Bytes>>
+        ensures says { let codings = ⟦<CompressorList as Compressors>⟧.codings in
+            Says E.Env (shown_by ⟦<InternalKeyCmp<C> as Cmp>⟧ E.Env C.Cmp FP.FilterPolicy codings)
+            self.old.state self.old.env.now (headline.get None key.now) (FoundOr result)
+            self.new.state self.new.env.now }
         ensures same_reference { self.new.env.ghost_name ≡ self.old.env.ghost_name }
         ensures serves { let choices = choices_of C.Cmp FP.FilterPolicy
             ⟦<InternalKeyCmp<C> as Cmp>⟧ ⟦<InternalFilterPolicy<FP> as FilterPolicy>⟧
@@ -235,6 +272,10 @@ impl<'e, E: Env, C: UserCmp + Copy, FP: FilterPolicy + Copy> Store<'e, E, Engine
     /// Err: nothing changes (`StaysAsItWas`).
     /// Crash: as without this call.
     pub fn get_at(&mut self, snapshot: &Snapshot, key: &[u8]) -> Result<Option<Bytes>>
+        ensures says { let codings = ⟦<CompressorList as Compressors>⟧.codings in
+            Says E.Env (shown_by ⟦<InternalKeyCmp<C> as Cmp>⟧ E.Env C.Cmp FP.FilterPolicy codings)
+            self.old.state self.old.env.now (headline.get (Some snapshot.now.number) key.now)
+            (FoundOr result) self.new.state self.new.env.now }
         ensures same_reference { self.new.env.ghost_name ≡ self.old.env.ghost_name }
         ensures serves { let choices = choices_of C.Cmp FP.FilterPolicy
             ⟦<InternalKeyCmp<C> as Cmp>⟧ ⟦<InternalFilterPolicy<FP> as FilterPolicy>⟧
@@ -252,6 +293,10 @@ impl<'e, E: Env, C: UserCmp + Copy, FP: FilterPolicy + Copy> Store<'e, E, Engine
     /// Err: nothing changes (`StaysAsItWas`).
     /// Crash: as without this call; no snapshot is held after it.
     pub fn get_snapshot(&mut self) -> Result<Snapshot>
+        ensures says { let codings = ⟦<CompressorList as Compressors>⟧.codings in
+            Says E.Env (shown_by ⟦<InternalKeyCmp<C> as Cmp>⟧ E.Env C.Cmp FP.FilterPolicy codings)
+            self.old.state self.old.env.now headline.get_snapshot (SnapshotOr result)
+            self.new.state self.new.env.now }
         ensures same_reference { self.new.env.ghost_name ≡ self.old.env.ghost_name }
         ensures serves { let choices = choices_of C.Cmp FP.FilterPolicy
             ⟦<InternalKeyCmp<C> as Cmp>⟧ ⟦<InternalFilterPolicy<FP> as FilterPolicy>⟧
@@ -269,6 +314,10 @@ impl<'e, E: Env, C: UserCmp + Copy, FP: FilterPolicy + Copy> Store<'e, E, Engine
     /// Err: nothing changes (`StaysAsItWas`).
     /// Crash: as without this call; no snapshot is held after it.
     pub fn release_snapshot(&mut self, snapshot: Snapshot) -> Result<()>
+        ensures says { let codings = ⟦<CompressorList as Compressors>⟧.codings in
+            SaysReleased E.Env (shown_by ⟦<InternalKeyCmp<C> as Cmp>⟧ E.Env C.Cmp FP.FilterPolicy
+            codings) self.old.state self.old.env.now snapshot result self.new.state
+            self.new.env.now }
         ensures same_reference { self.new.env.ghost_name ≡ self.old.env.ghost_name }
         ensures serves { let choices = choices_of C.Cmp FP.FilterPolicy
             ⟦<InternalKeyCmp<C> as Cmp>⟧ ⟦<InternalFilterPolicy<FP> as FilterPolicy>⟧
@@ -292,6 +341,12 @@ impl<'e, E: Env, C: UserCmp + Copy, FP: FilterPolicy + Copy> Store<'e, E, Engine
         moves: &[Move],
         steps: &mut Vec<Step>,
     ) -> Result<()>
+        ensures says { let codings = ⟦<CompressorList as Compressors>⟧.codings in
+            (given : List Step) × (steps.new.items ≡ steps.old.items ++ given)
+            × Says E.Env (shown_by ⟦<InternalKeyCmp<C> as Cmp>⟧ E.Env C.Cmp FP.FilterPolicy codings)
+            self.old.state self.old.env.now (headline.walk
+            (snapshot_number (option_map snapshot_of at)) (map walk_move_of (map move_of moves.now)))
+            (WalkedOr given result) self.new.state self.new.env.now }
         ensures same_reference { self.new.env.ghost_name ≡ self.old.env.ghost_name }
         ensures walks { let choices = choices_of C.Cmp FP.FilterPolicy
             ⟦<InternalKeyCmp<C> as Cmp>⟧ ⟦<InternalFilterPolicy<FP> as FilterPolicy>⟧
@@ -312,7 +367,13 @@ impl<'e, E: Env, C: UserCmp + Copy, FP: FilterPolicy + Copy> Store<'e, E, Engine
     /// After it: once this was called, also in vain, no contract says what the store is or holds,
     /// nor what later calls on it do. Use `walk` where you need the store after an iterator.
     pub fn new_iter<'a>(&'a mut self) -> Result<DBIterator<'a, E, C, FP>>
-        ensures { let codings = ⟦<CompressorList as Compressors>⟧.codings in
+        ensures says { let codings = ⟦<CompressorList as Compressors>⟧.codings in
+            let walk = ⟦<StoreView<'a, C> as Walk<E, StoreTables<'a, E, C, FP>>>⟧ in
+            let keys = ⟦<InternalKeyCmp<C> as Cmp>⟧ in
+            SaysIterated (iterating_in keys E.Env C.Cmp FP.FilterPolicy codings walk) E.Env
+            (shown_by keys E.Env C.Cmp FP.FilterPolicy codings) (λ it. it.env.now)
+            self.old.state self.old.env.now None result }
+        ensures iterates { let codings = ⟦<CompressorList as Compressors>⟧.codings in
             let walk = ⟦<StoreView<'a, C> as Walk<E, StoreTables<'a, E, C, FP>>>⟧ in
             EngineIterates ⟦<InternalKeyCmp<C> as Cmp>⟧ E.Env C.Cmp FP.FilterPolicy codings walk
             self.old.state self.old.env.now None result }
@@ -325,7 +386,13 @@ impl<'e, E: Env, C: UserCmp + Copy, FP: FilterPolicy + Copy> Store<'e, E, Engine
     /// A snapshot that isn't held is `InvalidArgument`. Its moves, and what is known of the store
     /// after it, are as of `new_iter`.
     pub fn new_iter_at<'a>(&'a mut self, snapshot: &Snapshot) -> Result<DBIterator<'a, E, C, FP>>
-        ensures { let codings = ⟦<CompressorList as Compressors>⟧.codings in
+        ensures says { let codings = ⟦<CompressorList as Compressors>⟧.codings in
+            let walk = ⟦<StoreView<'a, C> as Walk<E, StoreTables<'a, E, C, FP>>>⟧ in
+            let keys = ⟦<InternalKeyCmp<C> as Cmp>⟧ in
+            SaysIterated (iterating_in keys E.Env C.Cmp FP.FilterPolicy codings walk) E.Env
+            (shown_by keys E.Env C.Cmp FP.FilterPolicy codings) (λ it. it.env.now)
+            self.old.state self.old.env.now (Some snapshot.now.number) result }
+        ensures iterates { let codings = ⟦<CompressorList as Compressors>⟧.codings in
             let walk = ⟦<StoreView<'a, C> as Walk<E, StoreTables<'a, E, C, FP>>>⟧ in
             EngineIterates ⟦<InternalKeyCmp<C> as Cmp>⟧ E.Env C.Cmp FP.FilterPolicy codings walk
             self.old.state self.old.env.now (Some (snapshot_of snapshot.now)) result }
@@ -343,6 +410,10 @@ impl<'e, E: Env, C: UserCmp + Copy, FP: FilterPolicy + Copy> Store<'e, E, Engine
     /// back (`NotClosed`).
     /// Crash: the latest batches may be lost, up to those that were durable before.
     pub fn close(&mut self) -> Result<()>
+        ensures says { let codings = ⟦<CompressorList as Compressors>⟧.codings in
+            Says E.Env (shown_by ⟦<InternalKeyCmp<C> as Cmp>⟧ E.Env C.Cmp FP.FilterPolicy codings)
+            self.old.state self.old.env.now headline.close (DoneOr result)
+            self.new.state self.new.env.now }
         ensures same_reference { self.new.env.ghost_name ≡ self.old.env.ghost_name }
         ensures serves { let choices = choices_of C.Cmp FP.FilterPolicy
             ⟦<InternalKeyCmp<C> as Cmp>⟧ ⟦<InternalFilterPolicy<FP> as FilterPolicy>⟧
@@ -360,7 +431,10 @@ impl<'e, E: Env, C: UserCmp + Copy, FP: FilterPolicy + Copy> Store<'e, E, Engine
     /// Err: the device failed; nothing is held, and the lock is as it was (`NotUnlocked`).
     /// Crash: the latest batches may be lost, up to those that are durable.
     pub fn abandon(self) -> Result<()>
-        ensures { let formats = format_of C.Cmp FP.FilterPolicy
+        ensures says { SaysAbandoned E.Env (shown_by ⟦<InternalKeyCmp<C> as Cmp>⟧ E.Env C.Cmp
+            FP.FilterPolicy ⟦<CompressorList as Compressors>⟧.codings) self.entry.state
+            self.entry.env.now result self.exit.0.now }
+        ensures abandons { let formats = format_of C.Cmp FP.FilterPolicy
             ⟦<CompressorList as Compressors>⟧.codings in
             EngineAbandons ⟦<InternalKeyCmp<C> as Cmp>⟧ E.Env formats self.entry.state
             self.entry.env.now result self.exit.0.now }

@@ -7,6 +7,7 @@ ghost use Rattle.rusty_leveldb.specs.Engines.Engine.{opening_of};
 ghost use Rattle.leveldb_store.specs.Tables.BuildTable.{choices_of};
 ghost use Rattle.rusty_leveldb.specs.Programs.Lives.{IsAlwaysLife, IsCrash, ReportsLives};
 ghost use Rattle.rusty_leveldb.specs.Programs.RunCalls.{LivesByCalls};
+ghost use Rattle.rusty_leveldb.specs.Programs.Story.{AreOneStory, HaveNoTails};
 
 use super::commands::{Command, Reply};
 use super::runs::answer;
@@ -96,7 +97,9 @@ pub fn lives<C: UserCmp + Copy, FP: FilterPolicy + Copy>(
     name: &str,
     lives: Vec<Life<C, FP>>,
 ) -> Result<Vec<Report>>
-    ensures { ReportsLives ⟦<RecordEnv as Env>⟧ C.Cmp FP.FilterPolicy
+    ensures story { IfOk result (λ reports. HaveNoTails lives.items → AreOneStory C.Cmp
+        FP.FilterPolicy ⟦<CompressorList as Compressors>⟧.codings lives.items reports.items) }
+    ensures reports { ReportsLives ⟦<RecordEnv as Env>⟧ C.Cmp FP.FilterPolicy
         ⟦<CompressorList as Compressors>⟧.codings ⟦<InternalKeyCmp<C> as Cmp>⟧
         ⟦<InternalFilterPolicy<FP> as FilterPolicy>⟧ name.now lives.items result }
 {

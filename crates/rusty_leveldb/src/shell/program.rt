@@ -1,5 +1,5 @@
 //! The program: commands in, their replies out.
-ghost use Rattle.std.specs.Prelude.{◌≡◌, ◌≤◌, ◌^◌, ◌++◌, ℕ, List, Result, drop, length, IfOk, IfErr, IfSome, MatchOption, OnOk, OnErr, IsErrAnd};
+ghost use Rattle.std.specs.Prelude.{◌≡◌, ◌≤◌, ◌^◌, ◌++◌, List, Result, drop, length, IfOk, IfErr, IfSome, MatchOption, OnOk, OnErr, IsErrAnd};
 ghost use Rattle.leveldb_base.specs.declared.error.Status.{Status};
 ghost use Rattle.std.specs.Io.KnownBytes.{Appends};
 ghost use Rattle.leveldb_store.specs.Tables.BuildTable.{choices_of};

@@ -7,6 +7,7 @@ use Rattle.rusty_leveldb.proofs.Openings.UnopenedLemmas.{given_back_under}
 use Rattle.leveldb_env.proofs.FilterBlockLemmas.{on_ok}
 use Rattle.rusty_leveldb.proofs.Programs.Playing.{abandon_fails, play_first, play_more, play_end, not_opened, not_begun, commands_up_to}
 use Rattle.rusty_leveldb.proofs.Programs.TurnLemmas.{calls_later, calls_more, calls_step, calls_time}
+use Rattle.rusty_leveldb.proofs.Programs.RunStories.{run_story}
 use Rattle.rusty_leveldb.specs.Engines.Engine.{opening_of}
 use Rattle.rusty_leveldb.specs.Engines.Serves.{snapshot_of}
 use Rattle.leveldb_files.specs.Stores.Format.{format_of}
@@ -95,6 +96,18 @@ returns-clause-runs g c =
       unopened = λ modelled never. absurd (c.in_ok-engine.ensures.never_opens modelled never).0;
       misnamed = λ no. absurd (c.in_ok-engine.ensures.misnamed no).1;
     })
+
+pub returns-in_err-reserve-clause-story : goal.returns-in_err-reserve-clause-story
+returns-in_err-reserve-clause-story g c =
+    run_story g.E.Env c.args.name.now _ c.args.commands.now c.args.env.now _ _ _ (returns-in_err-reserve-clause-runs g c)
+
+pub returns-in_err-engine-clause-story : goal.returns-in_err-engine-clause-story
+returns-in_err-engine-clause-story g c =
+    run_story g.E.Env c.args.name.now _ c.args.commands.now c.args.env.now _ _ _ (returns-in_err-engine-clause-runs g c)
+
+pub returns-clause-story : goal.returns-clause-story
+returns-clause-story g c =
+    run_story g.E.Env c.args.name.now _ c.args.commands.now c.args.env.now _ _ _ (returns-clause-runs g c)
 
 pub returns-in_err-reserve-clause-calls : goal.returns-in_err-reserve-clause-calls
 returns-in_err-reserve-clause-calls g c =
