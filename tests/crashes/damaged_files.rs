@@ -286,6 +286,22 @@ fn may_be_made(alloc: Global, end: End, name: &str) -> bool {
     }
 }
 
+/// Whether this file is a damaged log or manifest that an opening set aside: it has the bytes that one had, which isn't under its own
+/// name any more.
+fn is_set_aside(alloc: Global, end: End, before: &[File], after: &[File], file: &File) -> bool {
+    let Some(name) = file.0.as_str().strip_suffix(".damaged") else {
+        return false;
+    };
+    let is_kind = matches!(
+        parse_file_name(alloc, name),
+        Ok((_, FileType::Log | FileType::Descriptor))
+    );
+    is_kind
+        && end != End::Failed
+        && bytes_in(before, name) == Some(file.1.as_slice())
+        && bytes_in(after, name).is_none()
+}
+
 /// How an opening ended.
 #[derive(Clone, Copy, PartialEq, Eq)]
 enum End {
@@ -318,8 +334,11 @@ pub fn are_left(alloc: Global, is_open: bool, before: &[File], after: &[File]) -
             return false;
         }
     }
-    after.iter().all(|(name, _)| {
-        bytes_in(before, name.as_str()).is_some() || may_be_made(alloc, end, name.as_str())
+    after.iter().all(|file| {
+        let name = file.0.as_str();
+        bytes_in(before, name).is_some()
+            || may_be_made(alloc, end, name)
+            || is_set_aside(alloc, end, before, after, file)
     })
 }
 

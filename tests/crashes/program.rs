@@ -10,7 +10,7 @@ use slow_store::levels_of;
 use std::alloc::Global;
 use std::io::{self, Read, Write};
 use std::process::Abort;
-use support::{Lines, damage_file};
+use support::{Lines, damage_file, file_bytes};
 
 /// Lines that are no command.
 const BAD_LINES: [&[u8]; 64] = [
@@ -424,7 +424,14 @@ fn locked_store(rt: HostRuntime) -> io::Result<()> {
 const DAMAGED: &str =
     "db/000003.log: 48 bytes from byte 0 on are left out, whole records among them\n";
 
-/// What the store says of a damaged log is a line, and changes no reply.
+/// Whether a file of the store isn't under its name but has these bytes under that of a damaged one.
+fn is_set_aside(alloc: Global, env: &mut MemEnv, name: &str, bytes: &[u8]) -> Result<bool> {
+    let path = format!(in alloc; "db/{name}")?;
+    let aside = format!(in alloc; "{name}.damaged")?;
+    Ok(!env.exists(&path)? && file_bytes(alloc, env, &aside)?.as_slice() == bytes)
+}
+
+/// What the store says of a damaged log is a line, and changes no reply. The log is set aside.
 #[test]
 fn a_damaged_log(rt: HostRuntime) -> Result<()> {
     let alloc = rt.alloc();
@@ -433,11 +440,12 @@ fn a_damaged_log(rt: HostRuntime) -> Result<()> {
     let ending = run_program(alloc, &mut env, &["db"], &mut input)?;
     assert_ending(&rt, &ending, 0, b"ok\nok\n", b"");
     damage_file(alloc, &mut env, "000003.log", 10)?;
+    let bytes = file_bytes(alloc, &mut env, "000003.log")?;
     let wanted = (0, b"none\nnone\n".as_slice(), b"".as_slice());
     let get = b"get 61\nget 62\n";
     let counts = run_with_line(&rt, &mut env, alloc, &["db"], get, DAMAGED, wanted)?;
     assert!(rt; counts.1 == 1);
-    assert!(rt; env.exists("db/000003.log")?);
+    assert!(rt; is_set_aside(alloc, &mut env, "000003.log", &bytes)?);
     Ok(())
 }
 
@@ -445,7 +453,7 @@ const DAMAGED_MANIFEST: &str =
     "db/MANIFEST-000001: 80 bytes from byte 41 on are left out, whole records among them\n";
 
 /// Of three keys two are in tables that a damaged edit names: they aren't found, and their tables
-/// stay.
+/// stay. The manifest is set aside.
 #[test]
 fn a_damaged_manifest(rt: HostRuntime) -> Result<()> {
     let alloc = rt.alloc();
@@ -459,14 +467,16 @@ fn a_damaged_manifest(rt: HostRuntime) -> Result<()> {
     db.close()?;
     db.abandon()?;
     damage_file(alloc, &mut env, "MANIFEST-000001", 53)?;
+    let bytes = file_bytes(alloc, &mut env, "MANIFEST-000001")?;
     let wanted = (0, b"none\nnone\nvalue 33\n".as_slice(), b"".as_slice());
     let get = b"get 61\nget 62\nget 63\n";
     let counts = run_with_line(&rt, &mut env, alloc, &["db"], get, DAMAGED_MANIFEST, wanted)?;
     assert!(rt; counts.1 == 1);
-    for name in ["MANIFEST-000001", "000005.ldb", "000007.ldb"] {
+    for name in ["000005.ldb", "000007.ldb"] {
         let path = format!(in alloc; "db/{name}")?;
         assert!(rt; env.exists(&path)?);
     }
+    assert!(rt; is_set_aside(alloc, &mut env, "MANIFEST-000001", &bytes)?);
     Ok(())
 }
 

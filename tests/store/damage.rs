@@ -1,5 +1,7 @@
 //! Openings of files whose bytes were changed: which lines the sink gets, and which files stay.
-use super::stores::{DefaultOptions, STORE, buffered, has_files, opened, put_all, reopen, reusing};
+use super::stores::{
+    DefaultOptions, STORE, buffered, has_files, map_of, opened, put_all, reopen, reusing,
+};
 use leveldb_base::crc::{crc32, mask_crc};
 use leveldb_base::error::Result;
 use leveldb_disks::mem_env::RecordEnv;
@@ -7,9 +9,10 @@ use leveldb_env::env::Env;
 use leveldb_env::options::Options;
 use leveldb_mem::log::{BLOCK_SIZE, LogWriter};
 use leveldb_store::damage::{LeftOut, left_out};
+use rusty_leveldb::repair;
 use std::alloc::Global;
 use std::process::Abort;
-use support::{Lines, change_byte, damage_file, file_bytes, put_file};
+use support::{Lines, change_byte, damage_file, file_bytes, lose_manifest, put_file};
 
 /// How many lines an opening with these options gives, and how many of them are this one.
 fn opened_with_lines(
@@ -49,8 +52,10 @@ const TABLES: &[&str] = &["000005.ldb", "000007.ldb"];
 const IN_MANIFEST: &str =
     "db/MANIFEST-000001: 80 bytes from byte 41 on are left out, whole records among them\n";
 
-/// One byte of a manifest's second record is changed. What it names stays, at each opening, until
-/// the manifest is taken away.
+const SET_ASIDE: &str = "MANIFEST-000001.damaged";
+
+/// One byte of a manifest's second record is changed. What it names stays while the store is open,
+/// and the manifest is set aside with its bytes: the next opening reads it no more.
 #[test]
 fn a_manifest_with_a_changed_byte(rt: HostRuntime) -> Result<()> {
     let alloc = rt.alloc();
@@ -59,17 +64,18 @@ fn a_manifest_with_a_changed_byte(rt: HostRuntime) -> Result<()> {
         "000005.ldb:177 000006.log:24 000007.ldb:177 CURRENT:16 LOCK:0 MANIFEST-000001:121 ";
     assert!(rt; has_files(alloc, &mut env, before)?);
     damage_file(alloc, &mut env, "MANIFEST-000001", 53)?;
-    for _ in 0..3 {
-        let lines = opened_with_lines(alloc, &mut env, Options::default(), IN_MANIFEST)?;
-        // The other line says that no obsolete file is deleted.
-        assert!(rt; lines == (2, 1));
-        assert!(rt; are_there(alloc, &mut env, TABLES)?);
-        assert!(rt; are_there(alloc, &mut env, &["MANIFEST-000001", "000006.log"])?);
-    }
-    env.delete("db/MANIFEST-000001")?;
+    let bytes = file_bytes(alloc, &mut env, "MANIFEST-000001")?;
     let lines = opened_with_lines(alloc, &mut env, Options::default(), IN_MANIFEST)?;
-    assert!(rt; lines == (0, 0));
-    assert!(rt; !env.exists("db/000005.ldb")? && !env.exists("db/000007.ldb")?);
+    assert!(rt; lines == (1, 1));
+    assert!(rt; are_there(alloc, &mut env, TABLES)?);
+    assert!(rt; are_there(alloc, &mut env, &[SET_ASIDE, "000006.log"])?);
+    assert!(rt; !env.exists("db/MANIFEST-000001")?);
+    for _ in 0..2 {
+        let lines = opened_with_lines(alloc, &mut env, Options::default(), IN_MANIFEST)?;
+        assert!(rt; lines == (0, 0));
+        assert!(rt; !env.exists("db/000005.ldb")? && !env.exists("db/000007.ldb")?);
+    }
+    assert!(rt; file_bytes(alloc, &mut env, SET_ASIDE)?.as_slice() == bytes.as_slice());
     Ok(())
 }
 
@@ -79,11 +85,68 @@ fn new_manifests_after_one_with_a_changed_byte(rt: HostRuntime) -> Result<()> {
     let alloc = rt.alloc();
     let mut env = with_two_tables(alloc)?;
     damage_file(alloc, &mut env, "MANIFEST-000001", 53)?;
+    let lines = opened_with_lines(alloc, &mut env, reusing(false, false), IN_MANIFEST)?;
+    assert!(rt; lines == (1, 1));
+    assert!(rt; are_there(alloc, &mut env, TABLES)?);
+    let lines = opened_with_lines(alloc, &mut env, reusing(false, false), IN_MANIFEST)?;
+    assert!(rt; lines == (0, 0));
+    assert!(rt; env.exists("db/MANIFEST-000001.damaged")?);
+    Ok(())
+}
+
+/// A file that was set aside before keeps its name and its bytes. Then the damaged one stays where
+/// it is, and each opening finds it.
+#[test]
+fn a_name_that_is_taken(rt: HostRuntime) -> Result<()> {
+    let alloc = rt.alloc();
+    let mut env = with_two_tables(alloc)?;
+    damage_file(alloc, &mut env, "MANIFEST-000001", 53)?;
+    put_file(alloc, &mut env, SET_ASIDE, b"another")?;
+    let bytes = file_bytes(alloc, &mut env, "MANIFEST-000001")?;
     for _ in 0..3 {
-        let lines = opened_with_lines(alloc, &mut env, reusing(false, false), IN_MANIFEST)?;
-        assert!(rt; lines == (2, 1));
+        // The other line says that it isn't set aside.
+        let lines = opened_with_lines(alloc, &mut env, Options::default(), IN_MANIFEST)?;
+        assert!(rt; lines == (2, 1), "{lines:?}");
         assert!(rt; are_there(alloc, &mut env, TABLES)?);
+        assert!(rt; file_bytes(alloc, &mut env, SET_ASIDE)?.as_slice() == b"another".as_slice());
+        let now = file_bytes(alloc, &mut env, "MANIFEST-000001")?;
+        assert!(rt; now.as_slice() == bytes.as_slice());
     }
+    env.delete("db/MANIFEST-000001.damaged")?;
+    let lines = opened_with_lines(alloc, &mut env, Options::default(), IN_MANIFEST)?;
+    assert!(rt; lines == (1, 1));
+    assert!(rt; !env.exists("db/MANIFEST-000001")?);
+    assert!(rt; file_bytes(alloc, &mut env, SET_ASIDE)?.as_slice() == bytes.as_slice());
+    Ok(())
+}
+
+/// Twenty runs after one log with changed bytes leave no more files than the second one did, and
+/// the log has its bytes still, under its other name. A repair passes it over.
+#[test]
+fn runs_after_a_log_with_a_changed_byte(rt: HostRuntime) -> Result<()> {
+    let alloc = rt.alloc();
+    let mut env = RecordEnv::new(alloc);
+    put_all(alloc, &mut env, Options::default(), KEYS)?;
+    damage_file(alloc, &mut env, "000003.log", 30)?;
+    let bytes = file_bytes(alloc, &mut env, "000003.log")?;
+    let mut counts = Vec::new(alloc);
+    for round in 0..20 {
+        let mut engine = opened(alloc, &mut env, buffered(1))?;
+        engine.put(&mut env, b"d", &[round])?;
+        engine.put(&mut env, b"d", &[round])?;
+        engine.close(&mut env)?;
+        counts.push(env.children(alloc, STORE)?.len())?;
+    }
+    let most = counts.iter().skip(1).max().copied().unwrap_or(0);
+    assert!(rt; most <= 10, "{:?}", counts.as_slice());
+    let aside = "000003.log.damaged";
+    assert!(rt; file_bytes(alloc, &mut env, aside)?.as_slice() == bytes.as_slice());
+    assert!(rt; !env.exists("db/000003.log")?);
+    let map = map_of(alloc, &mut env)?;
+    lose_manifest(&mut env)?;
+    repair(alloc, STORE, &mut env, Options::default())?;
+    assert!(rt; map_of(alloc, &mut env)?.as_str() == map.as_str(), "{map}");
+    assert!(rt; file_bytes(alloc, &mut env, aside)?.as_slice() == bytes.as_slice());
     Ok(())
 }
 
@@ -99,32 +162,47 @@ fn writes_after_a_manifest_with_a_changed_byte(rt: HostRuntime) -> Result<()> {
     engine.put(&mut env, b"e", b"5")?;
     engine.abandon(&mut env)?;
     assert!(rt; are_there(alloc, &mut env, TABLES)?);
-    assert!(rt; env.exists("db/MANIFEST-000001")?);
+    assert!(rt; are_there(alloc, &mut env, &[SET_ASIDE])?);
     Ok(())
 }
 
-/// So it is where the store is compacted: the tables that compactions took stay in the folder.
+/// So it is where the store is compacted: what was there at the opening stays in the folder, and
+/// the tables that compactions took which came later don't.
 #[test]
 fn compactions_after_a_manifest_with_a_changed_byte(rt: HostRuntime) -> Result<()> {
     let alloc = rt.alloc();
     let mut env = with_two_tables(alloc)?;
     damage_file(alloc, &mut env, "MANIFEST-000001", 53)?;
     let mut engine = opened(alloc, &mut env, Options::default())?;
-    engine.put(&mut env, b"d", b"4")?;
-    engine.compact_range(&mut env, b"", b"")?;
     let names = env.children(alloc, STORE)?;
-    engine.compact_range(&mut env, b"", b"")?;
-    for name in &names {
-        assert!(rt; are_there(alloc, &mut env, &[name.as_str()])?, "{name}");
+    let mut counts = Vec::new(alloc);
+    for round in 0..20 {
+        engine.put(&mut env, b"d", &[round])?;
+        engine.compact_range(&mut env, b"", b"")?;
+        for name in &names {
+            assert!(rt; are_there(alloc, &mut env, &[name.as_str()])?, "{name}");
+        }
+        counts.push(env.children(alloc, STORE)?.len())?;
     }
+    // A call compacts a level deeper than the one before it, down to the last one: so there are one
+    // or two live tables, and a round leaves one file more than the first one did, at most.
+    let least = counts.first().copied().unwrap_or(0);
+    assert!(rt;
+        counts
+            .iter()
+            .all(|count| *count == least || *count == least + 1),
+        "{:?}",
+        counts.as_slice()
+    );
     engine.abandon(&mut env)?;
     assert!(rt; are_there(alloc, &mut env, TABLES)?);
-    assert!(rt; env.exists("db/MANIFEST-000001")?);
+    assert!(rt; are_there(alloc, &mut env, &[SET_ASIDE])?);
     Ok(())
 }
 
-/// Whichever byte of a manifest is changed, an opening fails or keeps all tables: no edit is lost
-/// in silence.
+/// Whichever byte of a manifest before its last record is changed, an opening fails or keeps all
+/// tables: no edit is lost in silence. If it is one of the last record, that one alone is lost, as
+/// by a crash, with its table.
 #[test]
 fn each_byte_of_a_manifest(rt: HostRuntime) -> Result<()> {
     let alloc = rt.alloc();
@@ -136,10 +214,13 @@ fn each_byte_of_a_manifest(rt: HostRuntime) -> Result<()> {
         if at == 85 || at == 86 {
             continue;
         }
-        if reopen(alloc, &mut env, Options::default()).is_ok() {
+        let opens = reopen(alloc, &mut env, Options::default()).is_ok();
+        if opens {
             tried = tried.saturating_add(1);
         }
-        assert!(rt; are_there(alloc, &mut env, TABLES)?, "byte {at}");
+        assert!(rt; are_there(alloc, &mut env, &["000005.ldb"])?, "byte {at}");
+        let lost = opens && at >= 81;
+        assert!(rt; env.exists("db/000007.ldb")? != lost, "byte {at}");
     }
     assert!(rt; tried > 70, "{tried} openings");
     Ok(())
@@ -148,26 +229,26 @@ fn each_byte_of_a_manifest(rt: HostRuntime) -> Result<()> {
 const IN_LOG: &str =
     "db/000003.log: 48 bytes from byte 24 on are left out, whole records among them\n";
 
-/// One byte of a log's second record is changed: the log stays.
+/// One byte of a log's second record is changed: the log is set aside.
 #[test]
 fn a_log_with_a_changed_byte(rt: HostRuntime) -> Result<()> {
     let alloc = rt.alloc();
     let mut env = RecordEnv::new(alloc);
     put_all(alloc, &mut env, Options::default(), KEYS)?;
     damage_file(alloc, &mut env, "000003.log", 30)?;
-    for _ in 0..2 {
-        let lines = opened_with_lines(alloc, &mut env, Options::default(), IN_LOG)?;
-        assert!(rt; lines == (2, 1));
-        assert!(rt; env.exists("db/000003.log")?);
-    }
+    let lines = opened_with_lines(alloc, &mut env, Options::default(), IN_LOG)?;
+    assert!(rt; lines == (1, 1));
+    let lines = opened_with_lines(alloc, &mut env, Options::default(), IN_LOG)?;
+    assert!(rt; lines == (0, 0));
+    assert!(rt; env.exists("db/000003.log.damaged")? && !env.exists("db/000003.log")?);
     Ok(())
 }
 
 const LAST_IN_LOG: &str =
     "db/000003.log: 24 bytes from byte 48 on are left out, no whole record among them\n";
 
-/// One byte of a log's last record is changed, which is all there: no crash leaves this, and the
-/// log stays.
+/// One byte of a log's last record is changed, and nothing whole comes after it: that is told, but
+/// a crash may leave this of bytes that weren't synced, and no file stays for it.
 #[test]
 fn a_log_with_a_changed_last_record(rt: HostRuntime) -> Result<()> {
     let alloc = rt.alloc();
@@ -175,8 +256,8 @@ fn a_log_with_a_changed_last_record(rt: HostRuntime) -> Result<()> {
     put_all(alloc, &mut env, Options::default(), KEYS)?;
     damage_file(alloc, &mut env, "000003.log", 60)?;
     let lines = opened_with_lines(alloc, &mut env, Options::default(), LAST_IN_LOG)?;
-    assert!(rt; lines == (2, 1));
-    assert!(rt; env.exists("db/000003.log")?);
+    assert!(rt; lines == (1, 1));
+    assert!(rt; !env.exists("db/000003.log")?);
     Ok(())
 }
 
@@ -221,7 +302,8 @@ fn whole_files(rt: HostRuntime) -> Result<()> {
     Ok(())
 }
 
-/// An opening that can't read a manifest that was left aside keeps all files.
+/// An opening that can't read a manifest that was left aside, or set it aside, keeps all files; and
+/// whatever fails, the manifest is under one of its names.
 #[test]
 fn a_manifest_that_cannot_be_read(rt: HostRuntime) -> Result<()> {
     let alloc = rt.alloc();
@@ -235,7 +317,8 @@ fn a_manifest_that_cannot_be_read(rt: HostRuntime) -> Result<()> {
         }
         env.fail(0, false);
         assert!(rt; are_there(alloc, &mut env, TABLES)?, "call {nth}");
-        assert!(rt; env.exists("db/MANIFEST-000001")?, "call {nth}");
+        let aside = env.exists("db/MANIFEST-000001.damaged")?;
+        assert!(rt; env.exists("db/MANIFEST-000001")? != aside, "call {nth}");
     }
     assert!(rt; kept > 20, "{kept} openings");
     Ok(())

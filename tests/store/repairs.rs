@@ -232,21 +232,28 @@ fn the_files_that_clash(rt: HostRuntime) -> Result<()> {
     Ok(())
 }
 
-/// A store whose manifest lost its last edit is opened, and gives a number again that is in a table which was left out. With one of the two files set
-/// aside it is repaired, and shows what the other has.
+/// A store with a table for each of these pairs, in whose manifest the edit of the second one is damaged.
+fn put_and_damage(alloc: Global, env: &mut MemEnv, pairs: &[(&str, &str)]) -> Result<()> {
+    let mut engine = Engine::open(alloc, STORE, env, DefaultOptions::default())?;
+    let mut ends = Vec::new(alloc);
+    for (key, value) in pairs {
+        engine.put(env, key.as_bytes(), value.as_bytes())?;
+        engine.compact_range(env, b"z", b"z")?;
+        ends.push(file_bytes(alloc, env, "MANIFEST-000001")?.len())?;
+    }
+    engine.abandon(env)?;
+    let end = ends.get(1).copied().unwrap_or(0);
+    damage_file(alloc, env, "MANIFEST-000001", end.saturating_sub(1))
+}
+
+/// A store whose manifest lost edits is opened, and gives a number again that is in a table which was left out. With one of the two files set aside it
+/// is repaired, and shows what the other has.
 #[test]
 fn a_damaged_store_that_was_written(rt: HostRuntime) -> Result<()> {
     let alloc = rt.alloc();
     for keeps_old in [false, true] {
         let mut env = MemEnv::new(alloc);
-        let mut engine = Engine::open(alloc, STORE, &mut env, DefaultOptions::default())?;
-        for (key, value) in PAIRS {
-            engine.put(&mut env, key.as_bytes(), value.as_bytes())?;
-            engine.compact_range(&mut env, b"z", b"z")?;
-        }
-        engine.abandon(&mut env)?;
-        let bytes = file_bytes(alloc, &mut env, "MANIFEST-000001")?;
-        damage_file(alloc, &mut env, "MANIFEST-000001", bytes.len() - 1)?;
+        put_and_damage(alloc, &mut env, &[("a", "1"), ("b", "2"), ("c", "3")])?;
         put_all(alloc, &mut env, DefaultOptions::default(), &[("b", "9")])?;
         let Err(status) = mend(alloc, &mut env) else {
             assert!(rt; false, "it was repaired");
@@ -266,7 +273,11 @@ fn a_damaged_store_that_was_written(rt: HostRuntime) -> Result<()> {
         assert!(rt; aside == 1, "{text}");
         mend(alloc, &mut env)?;
         let map = map_of(alloc, &mut env)?;
-        let wanted = if keeps_old { MAP } else { " a=1 b=9" };
+        let wanted = if keeps_old {
+            " a=1 b=2 c=3"
+        } else {
+            " a=1 b=9 c=3"
+        };
         assert!(rt; map.as_str() == wanted, "{map}");
     }
     Ok(())

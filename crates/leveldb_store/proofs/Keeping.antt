@@ -12,6 +12,8 @@ pub mod TableKeepsLemmas
 pub mod SoundLemmas
 pub mod WrittenFromLemmas
 pub mod DamageLemmas
+pub mod SetAsideLemmas
+pub mod SetAsideCallLemmas
 pub mod KeptFilesLemmas
 pub mod GivenNumbersLemmas
 pub mod HistoryLemmas

@@ -23,3 +23,4 @@ pub mod OpeningOpenLemmas
 pub mod OpeningBeginLemmas
 mod OpeningBytesLemmas
 pub mod EndsOpeningLemmas
+pub mod EndedLemmas

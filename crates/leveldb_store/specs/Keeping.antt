@@ -4,6 +4,7 @@ pub mod OpenTables
 pub mod Written
 pub mod WrittenFrom
 pub mod KeptBytes
+pub mod SetAside
 pub mod SoundCall
 pub mod LoggedEdits
 pub mod KeptEntries

@@ -11,6 +11,7 @@ mod merge_files;
 mod obsolete;
 mod read;
 mod room;
+mod set_aside;
 mod switch;
 mod table;
 mod view;
@@ -46,8 +47,9 @@ pub struct OpenStore<E: Env, C: Cmp> {
     pub(crate) mem: MemTable<C>,
     // The immutable memtable: those of the logs before it, until they are in a table.
     pub(crate) imm: Option<MemTable<C>>,
-    // Whether no file is deleted, since a log or a manifest that was left aside is damaged.
-    pub(crate) keeps_files: bool,
+    // The greatest number of the files that are kept, if some are, since a log or a manifest that
+    // was left aside is damaged.
+    pub(crate) kept_to: Option<FileNum>,
 }
 
 impl<E: Env, C: Cmp + Drop> Drop for OpenStore<E, C> {
@@ -61,7 +63,7 @@ impl<E: Env, C: Cmp + Drop> Drop for OpenStore<E, C> {
             log,
             mem,
             imm,
-            keeps_files: _,
+            kept_to: _,
         } = self;
         drop(name);
         drop(cmp);
@@ -89,7 +91,7 @@ impl<E: Env, C: Cmp> Model for OpenStore<E, C> {
       log = record { number = it.log.number; writer = it.log.file.writer };
       mem = it.mem.kept;
       imm = option_map (λ memtable. memtable.kept) it.imm;
-      keeps_files = it.keeps_files;
+      kept_to = it.kept_to;
     } };
 
     // The version set is of the store's path, the log's file has the path of the log's number,

@@ -168,7 +168,8 @@ module _ {E F C FP D P : Type 0} (order : CmpGhosts (InternalKeyCmp C)) (env : G
       usable = unbroken;
       rest = (step_of_tidying env by.format.order by.format {P = λ status. ⊥} old from to unbroken
           tidied time bytes).rest;
-      still_open = λ has. open_after_removal env by old.set (files_at env from) (files_at env to)
+      still_open = λ has. open_after_removal env by old.set old.kept_to (files_at env from)
+          (files_at env to)
           (tidied.others has.modelled) tables now closes.closes has.are;
       none_new = λ has meaning agrees w. adds_none_removed by.format.order meaning old
           (files_at env from) (files_at env to) w (tidied.others has.modelled);

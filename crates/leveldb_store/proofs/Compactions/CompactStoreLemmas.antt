@@ -128,7 +128,7 @@ module _ {E F C FP D P X : Type 0} (order : CmpGhosts (InternalKeyCmp C)) {keys 
       store = refl;
       cmp = refl;
       last = refl;
-      keeps_files = refl;
+      kept_to = refl;
       files = spares_made;
       numbers = m.gives.rises;
       tables = λ modelled. given_same old.set (files_at env from) (files_at env at)
@@ -394,7 +394,7 @@ module _ {E F C FP D P X : Type 0} (order : CmpGhosts (InternalKeyCmp C)) {keys 
           store = either (λ s. s.store) refl;
           cmp = refl;
           last = either (λ s. s.last_sequence) refl;
-          keeps_files = refl;
+          kept_to = refl;
           files = spares_logged (Err status) logs;
           numbers = omega (arith, m.gives.rises, either (λ s. s.next_file) refl);
           tables = λ modelled. given_same old.set (files_at env from) (files_at env to)
@@ -497,7 +497,7 @@ module _ {E F C FP D P X : Type 0} (order : CmpGhosts (InternalKeyCmp C)) {keys 
           store = part_is (λ s. s.store);
           cmp = refl;
           last = part_is (λ s. s.last_sequence);
-          keeps_files = refl;
+          kept_to = refl;
           files = spares_logged (Ok tt) logs;
           numbers = omega (arith, m.gives.rises, part_is (λ s. s.next_file));
           tables = λ modelled. given_same old.set (files_at env from) (files_at env to)

@@ -65,9 +65,9 @@ module _ (set : VersionSetValue) where
       omega (arith, same, least, given)))
 
   -- files are deleted, all of them obsolete
-  pub given_removed : (before after : Files) → RemovesNoOther set before after
-      → KeepsGivenTables set before after
-  given_removed before after removes number fits given =
+  pub given_removed : (kept_to : Option ℕ) (before after : Files)
+      → RemovesNoOther set kept_to before after → KeepsGivenTables set before after
+  given_removed kept_to before after removes number fits given =
       let path = table_path set.store number in
       ⊎_elim (λ same. same_or_gone (before path) (after path) same)
       (λ deleted. gone (before path) (after path) deleted.1) (removes path)

@@ -7,14 +7,15 @@ use Rattle.std.specs.Str.{bytes_eq}
 use Rattle.leveldb_base.proofs.NamesLemmas.{made_paths_apart}
 use Rattle.leveldb_base.specs.declared.types.FileType.TheVariants.{Table}
 use Rattle.leveldb_env.proofs.EnvLemmas.{Run-trans, at_other, at_same, begun, bytes_eq-apart}
-use Rattle.leveldb_env.specs.Env.{BeforeOrAfter, File, Files, SameBut, bytes_of, created, extended, file_kept, longer_file, or_empty, synced, with_file}
+use Rattle.leveldb_env.specs.Env.{BeforeOrAfter, File, Files, Run, SameBut, bytes_of, created, extended, file_kept, longer_file, or_empty, synced, with_file}
 use Rattle.leveldb_env.specs.declared.env.Env.{Ghosts}
 use Rattle.leveldb_version_set.specs.Sets.LogEdit.{AppendingAndSyncing}
 use Rattle.leveldb_files.specs.Stores.Paths.{table_path}
 use Rattle.leveldb_version_set.specs.Sets.VersionSetValue.{VersionSetValue}
-use Rattle.leveldb_store.specs.Keeping.KeptBytes.{BeginWith, KeepsItsBytes, LosesNoBytes, LosesNoBytesMeanwhile, TableNumbersAreBelow}
+use Rattle.leveldb_store.specs.Keeping.KeptBytes.{AreKept, BeginWith, KeepsItsBytes, LosesNoBytes, LosesNoBytesMeanwhile, TableNumbersAreBelow}
 use Rattle.leveldb_store.specs.Openings.Opening.{SameButTables}
 use Rattle.leveldb_store.specs.Tables.Outputs.{SameButNewTables}
+use Rattle.leveldb_store.specs.Writing.Switch.{IsObsoletePath, RemovesNoOther}
 
 -- ---- one file
 
@@ -179,3 +180,29 @@ module _ {E F : Type 0} (env : Ghosts E F) (store : List ℕ) where
   meanwhile_then {from} {mid} {to} first second = Run-trans first
       (λ now loses. loses_then store (env.observed from).disk.files (env.observed mid).disk.files
       now first.has loses) second
+
+-- ---- removals
+
+-- what is kept is there still where others are removed
+module _ (set : VersionSetValue) (kept_to : Option ℕ) where
+  loses_by_removal : (first old now : Files) → AreKept set.store first kept_to
+      → LosesNoBytes set.store first old → RemovesNoOther set kept_to old now
+      → LosesNoBytes set.store first now
+  loses_by_removal first old now are loses removes path kept file there = ⊎_elim
+      (λ (stays : now path ≡ old path).
+      subst (KeepsItsBytes file) (sym stays) (loses path kept file there))
+      (λ (gone : IsObsoletePath set kept_to path × (now path ≡ None)).
+      let name = gone.0.1 in
+      absurd (name.4 (are gone.0.0 name.0 name.1 name.2
+      (λ none. let never : Some file ≡ None = sym there ∙ ap first gone.0.2 ∙ none in cc))))
+      (removes path)
+
+  -- a removal after a call
+  pub meanwhile_removed : {E F : Type 0} (env : Ghosts E F) (from mid to : E)
+      → AreKept set.store (env.observed from).disk.files kept_to
+      → LosesNoBytesMeanwhile env set.store from mid
+      → Run (RemovesNoOther set kept_to (env.observed mid).disk.files) (env.observed mid)
+      (env.observed to) → LosesNoBytesMeanwhile env set.store from to
+  meanwhile_removed env from mid to are loses removes = Run-trans loses
+      (λ now removed. loses_by_removal (env.observed from).disk.files
+      (env.observed mid).disk.files now are loses.has removed) removes

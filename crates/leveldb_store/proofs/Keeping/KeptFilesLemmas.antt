@@ -1,5 +1,5 @@
--- A store that keeps its files is the same store, but for that.
-use Rattle.std.proofs.Common.{◌≡◌, ℕ, Bool, List, Ok}
+-- A store that keeps other files is the same store, but for that.
+use Rattle.std.proofs.Common.{◌≡◌, ℕ, Bool, List, Option, Ok}
 use Rattle.std.specs.declared.cmp.Ordering.{Ordering}
 use Rattle.leveldb_env.specs.Env.{Files}
 use Rattle.leveldb_env.specs.declared.env.Env.{Ghosts}
@@ -8,10 +8,10 @@ use Rattle.leveldb_store.specs.Keeping.OpenStore.{IsUnbroken, OpenStoreValue}
 use Rattle.leveldb_store.specs.Openings.OpensStore.{OpensStore}
 use Rattle.leveldb_store.specs.Keeping.Written.{IsWritten}
 
-module _ {C : Type 0} (value : OpenStoreValue C) (keeps : Bool) where
-  -- the store that keeps its files, or deletes them
+module _ {C : Type 0} (value : OpenStoreValue C) (kept_to : Option ℕ) where
+  -- the store that keeps these
   abbrev pub keeping : OpenStoreValue C
-  keeping = record value { keeps_files = keeps }
+  keeping = record value { kept_to = kept_to }
 
   pub unbroken_keeping : IsUnbroken value → IsUnbroken keeping
   unbroken_keeping is = record { manifest = is.manifest; log = is.log }

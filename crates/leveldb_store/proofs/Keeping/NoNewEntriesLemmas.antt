@@ -1,5 +1,5 @@
 -- Calls after which no entry is new that is in memory or in the live tables of a store.
-use Rattle.std.proofs.Common.{◌≡◌, ◌≢◌, ◌∙◌, ◌++◌, ◌+◌, ◌<◌, ◌^◌, ⊎_elim, ℕ, List, [], ◌∷◌, None, Some, Ok, ap, arith, map, refl, subst, sym}
+use Rattle.std.proofs.Common.{◌≡◌, ◌≢◌, ◌∙◌, ◌++◌, ◌+◌, ◌<◌, ◌^◌, ⊎_elim, ℕ, List, [], ◌∷◌, Option, None, Some, Ok, ap, arith, map, refl, subst, sym}
 use Rattle.std.specs.Prelude.{All, Contains, IsTrue}
 use Rattle.std.proofs.lemmas.List.Elements.{All-push, Contains-append_cases, Contains-append_left, Contains-append_right}
 use Rattle.std.specs.declared.cmp.Ordering.{Ordering}
@@ -41,8 +41,8 @@ module _ (set : VersionSetValue) (file : NewFile) (live : Contains set.full.adde
   its_path = table_path set.store file.number
 
   -- its path is none of an obsolete file
-  not_obsolete : IsObsoletePath set its_path → ⊥
-  not_obsolete gone =
+  not_obsolete : (kept_to : Option ℕ) → IsObsoletePath set kept_to its_path → ⊥
+  not_obsolete kept_to gone =
       let named = gone.1 in
       let same = one_reading gone.0 named.0 file.number named.1 Table named.2
       (subst (λ name. IsFileName name file.number Table)
@@ -53,10 +53,10 @@ module _ (set : VersionSetValue) (file : NewFile) (live : Contains set.full.adde
       (number_in file set.full.added live)
 
   -- so it is left
-  pub live_table_left : (before after : Files) → RemovesNoOther set before after
-      → after its_path ≡ before its_path
-  live_table_left before after removes = ⊎_elim (λ same. same)
-      (λ gone. absurd (not_obsolete gone.0)) (removes its_path)
+  pub live_table_left : (kept_to : Option ℕ) (before after : Files)
+      → RemovesNoOther set kept_to before after → after its_path ≡ before its_path
+  live_table_left kept_to before after removes = ⊎_elim (λ same. same)
+      (λ gone. absurd (not_obsolete kept_to gone.0)) (removes its_path)
 
 module _ {C : Type 0} (cmp : List ℕ → List ℕ → Ordering) (meaning : Meaning) where
   -- ---- calls in a row
@@ -79,14 +79,14 @@ module _ {C : Type 0} (cmp : List ℕ → List ℕ → Ordering) (meaning : Mean
 
   -- obsolete files are removed
   pub adds_none_removed : (value : OpenStoreValue C) (before after : Files)
-      → IsWritten cmp meaning value before → RemovesNoOther value.set before after
+      → IsWritten cmp meaning value before → RemovesNoOther value.set value.kept_to before after
       → AddsNoEntry cmp meaning value before value after
   adds_none_removed value before after w removes live has = (
     live,
     tables_stay cmp meaning value value before after live refl refl
         (λ file c.
         let l = live_below cmp meaning value.set.store before w.edits (memory_of value) w.by file c in
-        live_table_left value.set file c l.0 before after removes) has,
+        live_table_left value.set file c l.0 value.kept_to before after removes) has,
     λ entry c. c,
   )
 

@@ -1,6 +1,6 @@
 -- The open tables of a store: which of them calls close, and that they stay those of its files.
 use Rattle.std.specs.Prelude.{Contains, IsSome, IsTrue, map}
-use Rattle.std.proofs.Common.{◌≡◌, ◌∙◌, ◌≤◌, ◌<◌, ◌^◌, ⊎_elim, ℕ, Bool, true, false, List, [], ◌∷◌, None, Result, ap, arith, refl, subst, sym}
+use Rattle.std.proofs.Common.{◌≡◌, ◌∙◌, ◌≤◌, ◌<◌, ◌^◌, ⊎_elim, ℕ, Bool, true, false, List, [], ◌∷◌, Option, None, Result, ap, arith, refl, subst, sym}
 use Rattle.std.specs.declared.cmp.Ordering.{Ordering}
 use Rattle.leveldb_base.proofs.HistoryLemmas.{in_cases, in_front, in_none, in_rest}
 use Rattle.leveldb_base.proofs.NamesLemmas.{made_name}
@@ -182,12 +182,13 @@ module _ {E C FP F : Type 0} {order : CmpGhosts (InternalKeyCmp C)} (env : Ghost
       (rest.tables modelled) before after closes
 
   -- after one that removes obsolete files
-  pub open_after_removal : (set : VersionSetValue) (before after : Files)
-      → RemovesNoOther set before after → (old new : TableCache E C FP F)
+  pub open_after_removal : (set : VersionSetValue) (kept_to : Option ℕ) (before after : Files)
+      → RemovesNoOther set kept_to before after → (old new : TableCache E C FP F)
       → ClosesTables old new → AreOpenTablesOf order env by set before old
       → AreOpenTablesOf order env by set after new
-  open_after_removal set before after removes =
-      stay_open set set refl (omega arith) before after (given_removed set before after removes)
+  open_after_removal set kept_to before after removes =
+      stay_open set set refl (omega arith) before after
+      (given_removed set kept_to before after removes)
 
   -- and after a batch is written
   pub open_after_batch : {D : Type 0} (cmp : List ℕ → List ℕ → Ordering)

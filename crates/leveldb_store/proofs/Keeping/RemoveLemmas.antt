@@ -24,7 +24,7 @@ use Rattle.leveldb_base.specs.Error.{IsOutOfMemory}
 use Rattle.leveldb_base.specs.History.{History}
 use Rattle.leveldb_base.specs.Names.{IsFileName, IsNumber, IsNumbered, file_name}
 use Rattle.leveldb_base.specs.declared.error.Status.{Status}
-use Rattle.leveldb_base.specs.declared.error.StatusCode.TheVariants.{Corruption, NotFound}
+use Rattle.leveldb_base.specs.declared.error.StatusCode.TheVariants.{NotFound}
 use Rattle.leveldb_base.specs.declared.types.FileType.{FileType}
 use Rattle.leveldb_base.specs.declared.types.FileType.TheVariants.{Current, DBLock, Descriptor, InfoLog, Log, Table, Temp}
 use Rattle.leveldb_env.proofs.EnvLemmas.{Run-mono, Run-trans, SameBut-deleted, at_other, at_same, begun, bytes_eq-apart, call, with_file-itself}
@@ -45,6 +45,7 @@ use Rattle.leveldb_files.specs.Edits.VersionSet.{live_after}
 use Rattle.leveldb_version_set.specs.Sets.VersionSetValue.{VersionSetValue, broken, numbers_in_order}
 use Rattle.leveldb_version_set.specs.Engines.Writing.{IsObsolete}
 use Rattle.leveldb_files.specs.Stores.Format.{IsTableOf, Meaning}
+use Rattle.leveldb_store.specs.Keeping.KeptBytes.{IsKept}
 use Rattle.leveldb_store.specs.Keeping.OpenStore.{OpenStoreValue}
 use Rattle.leveldb_store.specs.Writing.Switch.{AreRemoved, DeletesFile, HasFirstCause, IsFirstError, IsMemoryOut, IsObsoleteName, IsObsoletePath, LeavesFailed, RemovesName, RemovesNames, RemovesNoOther, RemovesObsolete, without_files}
 use Rattle.leveldb_store.specs.Keeping.Written.{IsWritten, KeepsShown, KeepsStore, HasView, memory_of}
@@ -128,10 +129,16 @@ lacks files live is q false same = (
 -- ---- names
 
 -- a name has one reading, so that it is obsolete only if its file is
-pub not_obsolete_name : (set : VersionSetValue) (name : List ℕ) (n : ℕ) (kind : FileType) → IsFileName name n kind → (IsObsolete set kind n → ⊥) → IsObsoleteName set name → ⊥
-not_obsolete_name set name n kind is wanted it =
+pub not_obsolete_name : (set : VersionSetValue) (kept_to : Option ℕ) (name : List ℕ) (n : ℕ) (kind : FileType) → IsFileName name n kind → (IsObsolete set kind n → ⊥)
+    → IsObsoleteName set kept_to name → ⊥
+not_obsolete_name set kept_to name n kind is wanted it =
     let one = one_reading name it.0 n it.1 kind it.2 is in
     wanted (subst (λ k. IsObsolete set k n) one.1 (subst (IsObsolete set it.1) one.0 it.3))
+
+-- nor is one that is kept
+pub kept_name : (set : VersionSetValue) (kept_to : Option ℕ) (name : List ℕ) (n : ℕ) (kind : FileType) → IsFileName name n kind → IsKept kept_to n
+    → IsObsoleteName set kept_to name → ⊥
+kept_name set kept_to name n kind is kept it = it.4 (subst (IsKept kept_to) (sym (one_reading name it.0 n it.1 kind it.2 is).0) kept)
 
 own : IsNumeralModel (AllDigits 10) (digits_value 10)
 own = numerals_by_value (AllDigits 10) tells_digits
@@ -247,11 +254,11 @@ module _ {C : Type 0} (cmp : List ℕ → List ℕ → Ordering) (meaning : Mean
         by (Some file) some = there_removed (λ none. let never : Some file ≡ None = sym some ∙ none in cc)
 
   -- one after the other
-  all_removed : (paths : List (List ℕ)) → All (IsObsoletePath old.set) paths → (files : Files) → IsWritten cmp meaning old files → KeepsFiles files (without_files paths files)
+  all_removed : (paths : List (List ℕ)) → All (IsObsoletePath old.set old.kept_to) paths → (files : Files) → IsWritten cmp meaning old files → KeepsFiles files (without_files paths files)
   all_removed [] obsolete files w = none_kept files files refl w
   all_removed (path ∷ paths) obsolete files w =
-      let first = all_removed paths (All-tail (IsObsoletePath old.set) path paths obsolete) files w in
-      let it = All-head (IsObsoletePath old.set) path paths obsolete in
+      let first = all_removed paths (All-tail (IsObsoletePath old.set old.kept_to) path paths obsolete) files w in
+      let it = All-head (IsObsoletePath old.set old.kept_to) path paths obsolete in
       let name = it.1 in
       let second = one_removed (without_files paths files) first.written it.0 name.0 name.1 name.2 name.3 in
       let mid = without_files paths files in
@@ -262,48 +269,48 @@ module _ {C : Type 0} (cmp : List ℕ → List ℕ → Ordering) (meaning : Mean
       })
 
   -- a removal keeps the store
-  pub removal_keeps : (from to : Observed) → Run (AreRemoved old.set from.disk.files) from to → IsWritten cmp meaning old from.disk.files → KeepsStore cmp meaning allowed old from old to
+  pub removal_keeps : (from to : Observed) → Run (AreRemoved old.set old.kept_to from.disk.files) from to → IsWritten cmp meaning old from.disk.files → KeepsStore cmp meaning allowed old from old to
   removal_keeps from to run w = record {
     moments = λ bound reached. Run-mono (λ files removed. (kept files removed).moments bound) run;
     written = λ unbroken. (kept to.disk.files run.has).written;
     shows = (kept to.disk.files run.has).shows;
   }
     where
-      kept : (files : Files) → AreRemoved old.set from.disk.files files → KeepsFiles from.disk.files files
+      kept : (files : Files) → AreRemoved old.set old.kept_to from.disk.files files → KeepsFiles from.disk.files files
       kept files removed = subst (KeepsFiles from.disk.files) (sym removed.2) (all_removed removed.0 removed.1 from.disk.files w)
 
 -- ---- what is removed
 
-module _ (set : VersionSetValue) where
-  pub none_removed : (files now : Files) → now ≡ files → AreRemoved set files now
-  none_removed files now is = ([], All-nil (IsObsoletePath set), is)
+module _ (set : VersionSetValue) (kept_to : Option ℕ) where
+  pub none_removed : (files now : Files) → now ≡ files → AreRemoved set kept_to files now
+  none_removed files now is = ([], All-nil (IsObsoletePath set kept_to), is)
 
-  pub one_more_removed : (files mid now : Files) (name : List ℕ) → IsObsoleteName set name → AreRemoved set files mid → BeforeOrAfter (deleted (in_folder set.store name)) mid now → AreRemoved set files now
-  one_more_removed files mid now name obsolete removed (inl is) = subst (AreRemoved set files) (sym is) removed
+  pub one_more_removed : (files mid now : Files) (name : List ℕ) → IsObsoleteName set kept_to name → AreRemoved set kept_to files mid → BeforeOrAfter (deleted (in_folder set.store name)) mid now → AreRemoved set kept_to files now
+  one_more_removed files mid now name obsolete removed (inl is) = subst (AreRemoved set kept_to files) (sym is) removed
   one_more_removed files mid now name obsolete removed (inr is) = (
     in_folder set.store name ∷ removed.0,
-    All-cons (IsObsoletePath set) (in_folder set.store name) removed.0 (name, obsolete, refl) removed.1,
+    All-cons (IsObsoletePath set kept_to) (in_folder set.store name) removed.0 (name, obsolete, refl) removed.1,
     is ∙ ap (deleted (in_folder set.store name)) removed.2,
   )
 
-  without_no_other : (paths : List (List ℕ)) → All (IsObsoletePath set) paths → (files : Files) → RemovesNoOther set files (without_files paths files)
+  without_no_other : (paths : List (List ℕ)) → All (IsObsoletePath set kept_to) paths → (files : Files) → RemovesNoOther set kept_to files (without_files paths files)
   without_no_other [] obsolete files other = inl refl
-  without_no_other (first ∷ paths) obsolete files other = by (bytes_eq first other) refl (without_no_other paths (All-tail (IsObsoletePath set) first paths obsolete) files other)
+  without_no_other (first ∷ paths) obsolete files other = by (bytes_eq first other) refl (without_no_other paths (All-tail (IsObsoletePath set kept_to) first paths obsolete) files other)
     where
-      by : (b : Bool) → bytes_eq first other ≡ b → (without_files paths files other ≡ files other) ⊎ (IsObsoletePath set other × (without_files paths files other ≡ None))
-          → (deleted first (without_files paths files) other ≡ files other) ⊎ (IsObsoletePath set other × (deleted first (without_files paths files) other ≡ None))
+      by : (b : Bool) → bytes_eq first other ≡ b → (without_files paths files other ≡ files other) ⊎ (IsObsoletePath set kept_to other × (without_files paths files other ≡ None))
+          → (deleted first (without_files paths files) other ≡ files other) ⊎ (IsObsoletePath set kept_to other × (deleted first (without_files paths files) other ≡ None))
       by true e before =
           let same = (bytes_decides first other).0 e in
           inr (
-            subst (IsObsoletePath set) same (All-head (IsObsoletePath set) first paths obsolete),
+            subst (IsObsoletePath set kept_to) same (All-head (IsObsoletePath set kept_to) first paths obsolete),
             subst (λ p. deleted first (without_files paths files) p ≡ None) same (at_same first None (without_files paths files)),
           )
       by false e before = ⊎_elim (λ stays. inl (at_other first None (without_files paths files) other e ∙ stays))
           (λ gone. inr (gone.0, at_other first None (without_files paths files) other e ∙ gone.1)) before
 
   -- no other file is
-  pub removes_no_other : (files now : Files) → AreRemoved set files now → RemovesNoOther set files now
-  removes_no_other files now removed = subst (RemovesNoOther set files) (sym removed.2) (without_no_other removed.0 removed.1 files)
+  pub removes_no_other : (files now : Files) → AreRemoved set kept_to files now → RemovesNoOther set kept_to files now
+  removes_no_other files now removed = subst (RemovesNoOther set kept_to files) (sym removed.2) (without_no_other removed.0 removed.1 files)
 
 -- what is gone stays so
 gone_stays : (gone other : List ℕ) (mid now : Files) → BeforeOrAfter (deleted gone) mid now → mid other ≡ None → now other ≡ None
@@ -349,29 +356,29 @@ first_stays first (Err e) joins = ⊎_elim (λ is. sym is) (λ never. absurd (cc
 
 -- ---- one name after the other
 
-module _ {E F : Type 0} (env : Ghosts E F) (set : VersionSetValue) (from : E) where
-  pub no_names : RemovesNames env set from [] (Ok tt) from
+module _ {E F : Type 0} (env : Ghosts E F) (set : VersionSetValue) (kept_to : Option ℕ) (from : E) where
+  pub no_names : RemovesNames env set kept_to from [] (Ok tt) from
   no_names = record {
-    run = λ modelled. begun (env.observed from) (none_removed set (env.observed from).disk.files (env.observed from).disk.files refl);
+    run = λ modelled. begun (env.observed from) (none_removed set kept_to (env.observed from).disk.files (env.observed from).disk.files refl);
     all = λ modelled name c. absurd (in_none name c);
     left = inr (λ modelled. record { failed = []; left = λ name one some. absurd (in_none name one.0); counted = inl (omega arith) });
     locks = λ modelled. refl;
     cause = record { later = omega arith; ok = refl; cause = tt };
   }
 
-  module _ (done : List (List ℕ)) (first : Result (Unit {0}) Status) (mid : E) (so_far : RemovesNames env set from done first mid) (name : List ℕ)
+  module _ (done : List (List ℕ)) (first : Result (Unit {0}) Status) (mid : E) (so_far : RemovesNames env set kept_to from done first mid) (name : List ℕ)
       (there : IsTrue env.models_disk → (env.observed mid).disk.files (in_folder set.store name) ≢ None) (result : Result (Unit {0}) Status) (to : E)
       (both : Result (Unit {0}) Status) (joins : IsFirstError first result both) where
     abbrev name_path : List ℕ
     name_path = in_folder set.store name
 
     abbrev Gone : E → List (List ℕ) → Type 0
-    Gone at names = IsTrue env.models_disk → (other : List ℕ) → Contains names other → IsObsoleteName set other → (env.observed at).disk.files (in_folder set.store other) ≡ None
+    Gone at names = IsTrue env.models_disk → (other : List ℕ) → Contains names other → IsObsoleteName set kept_to other → (env.observed at).disk.files (in_folder set.store other) ≡ None
 
     abbrev Left : E → List (List ℕ) → Type 0
-    Left at names = LeavesFailed env set from (λ other. Contains names other × IsObsoleteName set other) at
+    Left at names = LeavesFailed env set from (λ other. Contains names other × IsObsoleteName set kept_to other) at
 
-    module _ (obsolete : IsObsoleteName set name) (it : DeletesFile env mid name_path result to) where
+    module _ (obsolete : IsObsoleteName set kept_to name) (it : DeletesFile env mid name_path result to) where
       -- what is gone stays so
       stays_gone : IsTrue env.models_disk → (other : List ℕ) → (env.observed mid).disk.files (in_folder set.store other) ≡ None → (env.observed to).disk.files (in_folder set.store other) ≡ None
       stays_gone modelled other none = gone_stays name_path (in_folder set.store other) (env.observed mid).disk.files (env.observed to).disk.files ((it.does modelled).now modelled) none
@@ -434,10 +441,10 @@ module _ {E F : Type 0} (env : Ghosts E F) (set : VersionSetValue) (from : E) wh
           (subst (λ r. IfErr r (λ status. IsMissing env.models_disk name_path (env.observed mid) status ⊎ (env.failures to ≡ env.failures mid + 1)
           ⊎ ((env.failures mid ≡ 2 ^ 64 - 1) × (env.failures to ≡ env.failures mid)))) is it.cause.cause)
 
-      deleted_one : RemovesNames env set from (done ++ name ∷ []) both to
+      deleted_one : RemovesNames env set kept_to from (done ++ name ∷ []) both to
       deleted_one = record {
         run = λ modelled. call modelled (so_far.run modelled)
-            (λ files passes. one_more_removed set (env.observed from).disk.files (env.observed mid).disk.files files name obsolete (so_far.run modelled).has passes) (it.does modelled);
+            (λ files passes. one_more_removed set kept_to (env.observed from).disk.files (env.observed mid).disk.files files name obsolete (so_far.run modelled).has passes) (it.does modelled);
         all = on_ok_more both joins.ok (λ oks. all_then oks.1 (subst (λ r. OnOk r (Gone mid done)) oks.0 so_far.all));
         left = left_then result refl so_far.left;
         locks = λ modelled. it.locks modelled ∙ so_far.locks modelled;
@@ -446,12 +453,12 @@ module _ {E F : Type 0} (env : Ghosts E F) (set : VersionSetValue) (from : E) wh
             so_far.cause it.cause;
       }
 
-    skipped_one : (IsObsoleteName set name → ⊥) → RemovesNames env set from (done ++ name ∷ []) first mid
+    skipped_one : (IsObsoleteName set kept_to name → ⊥) → RemovesNames env set kept_to from (done ++ name ∷ []) first mid
     skipped_one wanted = record {
       run = so_far.run;
       all = on_ok_more first so_far.all (λ before modelled other c obsolete. ⊎_elim
           (λ (earlier : Contains done other). before modelled other earlier obsolete)
-          (λ (same : name ≡ other). absurd (wanted (subst (IsObsoleteName set) (sym same) obsolete)))
+          (λ (same : name ≡ other). absurd (wanted (subst (IsObsoleteName set kept_to) (sym same) obsolete)))
           (Contains-push_cases done name other c));
       left = ⊎_elim (λ memory. inl memory)
           (λ before. inr (λ modelled. let it = before modelled in
@@ -459,7 +466,7 @@ module _ {E F : Type 0} (env : Ghosts E F) (set : VersionSetValue) (from : E) wh
             failed = it.failed;
             left = λ other one some. ⊎_elim
                 (λ (earlier : Contains done other). it.left other (earlier, one.1) some)
-                (λ (same : name ≡ other). absurd (wanted (subst (IsObsoleteName set) (sym same) one.1)))
+                (λ (same : name ≡ other). absurd (wanted (subst (IsObsoleteName set kept_to) (sym same) one.1)))
                 (Contains-push_cases done name other one.0);
             counted = it.counted;
           })) so_far.left;
@@ -468,22 +475,22 @@ module _ {E F : Type 0} (env : Ghosts E F) (set : VersionSetValue) (from : E) wh
     }
 
     -- one more name
-    pub one_more_name : RemovesName env set mid name result to → RemovesNames env set from (done ++ name ∷ []) both to
+    pub one_more_name : RemovesName env set kept_to mid name result to → RemovesNames env set kept_to from (done ++ name ∷ []) both to
     one_more_name removes = ⊎_elim
-        (λ (it : IsObsoleteName set name × DeletesFile env mid name_path result to). deleted_one it.0 it.1)
-        (λ (skip : (IsObsoleteName set name → ⊥) × (result ≡ Ok tt) × (to ≡ mid)).
-        subst (λ r. RemovesNames env set from (done ++ name ∷ []) r to) (sym (first_stays first both (subst (λ r. IsFirstError first r both) skip.1 joins)))
-        (subst (RemovesNames env set from (done ++ name ∷ []) first) (sym skip.2) (skipped_one skip.0))) removes
+        (λ (it : IsObsoleteName set kept_to name × DeletesFile env mid name_path result to). deleted_one it.0 it.1)
+        (λ (skip : (IsObsoleteName set kept_to name → ⊥) × (result ≡ Ok tt) × (to ≡ mid)).
+        subst (λ r. RemovesNames env set kept_to from (done ++ name ∷ []) r to) (sym (first_stays first both (subst (λ r. IsFirstError first r both) skip.1 joins)))
+        (subst (RemovesNames env set kept_to from (done ++ name ∷ []) first) (sym skip.2) (skipped_one skip.0))) removes
 
     -- which leaves the others alone
-    pub others_left : RemovesName env set mid name result to → (other : List ℕ) → bytes_eq name other ≡ false → IsTrue env.models_disk
+    pub others_left : RemovesName env set kept_to mid name result to → (other : List ℕ) → bytes_eq name other ≡ false → IsTrue env.models_disk
         → (env.observed to).disk.files (in_folder set.store other) ≡ (env.observed mid).disk.files (in_folder set.store other)
     others_left removes other apart modelled = ⊎_elim
-        (λ (it : IsObsoleteName set name × DeletesFile env mid name_path result to).
+        (λ (it : IsObsoleteName set kept_to name × DeletesFile env mid name_path result to).
         SameBut-deleted name_path (env.observed mid).disk.files (env.observed to).disk.files ((it.1.does modelled).now modelled) (in_folder set.store other)
         (bytes_eq-apart name_path (in_folder set.store other) (λ same. let same_name' = same_name set.store name other same in
         let wrong : true ≡ false = sym ((bytes_decides name other).1 same_name') ∙ apart in cc)))
-        (λ (skip : (IsObsoleteName set name → ⊥) × (result ≡ Ok tt) × (to ≡ mid)). ap (λ e. (env.observed e).disk.files (in_folder set.store other)) skip.2) removes
+        (λ (skip : (IsObsoleteName set kept_to name → ⊥) × (result ≡ Ok tt) × (to ≡ mid)). ap (λ e. (env.observed e).disk.files (in_folder set.store other)) skip.2) removes
 
 -- ---- a list of names
 
@@ -502,12 +509,12 @@ distinct_rest zero names distinct = distinct
 distinct_rest (suc i) [] distinct = distinct
 distinct_rest (suc i) (first ∷ names) distinct = distinct_rest i names (IsDistinct-tail bytes_eq first names distinct)
 
-in_rest_of : (i : ℕ) (names : List (List ℕ)) (name : List ℕ) → Contains (drop i names) name → Contains names name
+pub in_rest_of : (i : ℕ) (names : List (List ℕ)) (name : List ℕ) → Contains (drop i names) name → Contains names name
 in_rest_of zero names name c = c
 in_rest_of (suc i) [] name c = c
 in_rest_of (suc i) (first ∷ names) name c = in_rest first name names (in_rest_of i names name c)
 
-module _ {E F : Type 0} (env : Ghosts E F) (set : VersionSetValue) (from : E) where
+module _ {E F : Type 0} (env : Ghosts E F) (set : VersionSetValue) (kept_to : Option ℕ) (from : E) where
   -- the files of the names after the first ones are as they were
   abbrev RestThere : List (List ℕ) → ℕ → E → Type 0
   RestThere names i at = IsTrue env.models_disk → (name : List ℕ) → Contains (drop i names) name
@@ -515,13 +522,13 @@ module _ {E F : Type 0} (env : Ghosts E F) (set : VersionSetValue) (from : E) wh
 
   pub names_step : {A : Type 0} (f : A → List ℕ) (items : List A) (i : ℕ) (item : A) → i < length items → item ≡ get_or items i item
       → (IsTrue env.models_disk → ListsChildren (env.observed from).disk.files set.store (map f items)) → (first : Result (Unit {0}) Status) (mid : E)
-      → RemovesNames env set from (take i (map f items)) first mid → RestThere (map f items) i mid
-      → (name : List ℕ) → name ≡ f item → (result : Result (Unit {0}) Status) (to : E) → RemovesName env set mid name result to → (both : Result (Unit {0}) Status) → IsFirstError first result both
-      → RemovesNames env set from (take (i + 1) (map f items)) both to × RestThere (map f items) (i + 1) to
+      → RemovesNames env set kept_to from (take i (map f items)) first mid → RestThere (map f items) i mid
+      → (name : List ℕ) → name ≡ f item → (result : Result (Unit {0}) Status) (to : E) → RemovesName env set kept_to mid name result to → (both : Result (Unit {0}) Status) → IsFirstError first result both
+      → RemovesNames env set kept_to from (take (i + 1) (map f items)) both to × RestThere (map f items) (i + 1) to
   names_step f items i item within is listed first mid so_far rest name named result to removes both joins =
       let next = next_item f items i item within is in
       let names = map f items in
-      let it : RemovesName env set mid (f item) result to = subst (λ z. RemovesName env set mid z result to) named removes in
+      let it : RemovesName env set kept_to mid (f item) result to = subst (λ z. RemovesName env set kept_to mid z result to) named removes in
       let here : Contains (drop i names) (f item) = subst (λ xs. Contains xs (f item)) (sym next.1) (in_front (f item) (drop (i + 1) names)) in
       let there : IsTrue env.models_disk → (env.observed mid).disk.files (in_folder set.store (f item)) ≢ None = λ modelled none.
       let wrong : false ≡ true = subst (λ o. IsSome o) (sym (rest modelled (f item) here) ∙ none) (((listed modelled).each (f item)).0 (in_rest_of i names (f item) here)).1 in cc in
@@ -529,76 +536,63 @@ module _ {E F : Type 0} (env : Ghosts E F) (set : VersionSetValue) (from : E) wh
       All-contains (λ y. bytes_eq (f item) y ≡ false) (drop (i + 1) names) other
       (All-from_recursion (λ y. bytes_eq (f item) y ≡ false) (drop (i + 1) names)
       (IsDistinct-head bytes_eq (f item) (drop (i + 1) names) (subst (IsDistinct bytes_eq) next.1 (distinct_rest i names (listed modelled).once)))) c in (
-        subst (λ xs. RemovesNames env set from xs both to) (sym next.0)
-            (one_more_name env set from (take i names) first mid so_far (f item) there result to both joins it),
+        subst (λ xs. RemovesNames env set kept_to from xs both to) (sym next.0)
+            (one_more_name env set kept_to from (take i names) first mid so_far (f item) there result to both joins it),
         λ modelled other c.
-            others_left env set from (take i names) first mid so_far (f item) there result to both joins it other (apart modelled other c) modelled
+            others_left env set kept_to from (take i names) first mid so_far (f item) there result to both joins it other (apart modelled other c) modelled
             ∙ rest modelled other (subst (λ xs. Contains xs other) (sym next.1) (in_rest (f item) other (drop (i + 1) names) c)),
       )
 
 -- ---- the whole call
 
 -- where nothing changed before, files were removed alone from the start on
-pub removing_after : (set : VersionSetValue) (from mid to : Observed) → Run (FilesUnchanged from.disk.files) from mid → Run (AreRemoved set mid.disk.files) mid to → Run (AreRemoved set from.disk.files) from to
-removing_after set from mid to listing removing = Run-trans (Run-mono (λ files same. none_removed set from.disk.files files same) listing)
-    (λ files removed. subst (λ f. AreRemoved set f files) listing.has removed) removing
+pub removing_after : (set : VersionSetValue) (kept_to : Option ℕ) (from mid to : Observed) → Run (FilesUnchanged from.disk.files) from mid → Run (AreRemoved set kept_to mid.disk.files) mid to → Run (AreRemoved set kept_to from.disk.files) from to
+removing_after set kept_to from mid to listing removing = Run-trans (Run-mono (λ files same. none_removed set kept_to from.disk.files files same) listing)
+    (λ files removed. subst (λ f. AreRemoved set kept_to f files) listing.has removed) removing
 
-module _ {E F : Type 0} (env : Ghosts E F) (set : VersionSetValue) (from : E) where
+module _ {E F : Type 0} (env : Ghosts E F) (set : VersionSetValue) (kept_to : Option ℕ) (from : E) where
   -- the folder isn't listed
   pub RemovesObsolete-unlisted : {T : Type 0} (usable : set.manifest ≢ broken) (mid : E) (status : Status) → (IsTrue env.models_disk → Run (FilesUnchanged (env.observed from).disk.files) (env.observed from) (env.observed mid))
       → SameLocks env.models_disk (env.observed from) (env.observed mid) → HasCause {T = T} (IsEmptyFolder env.models_disk set.store (env.observed from)) (env.failures from) (env.failures mid) (Err status)
-      → {keeps_files : Bool} → keeps_files ≡ false → RemovesObsolete env set from keeps_files (Err status) mid
-  RemovesObsolete-unlisted usable mid status still locks cause {keeps_files} deletes = record {
+      → RemovesObsolete env set kept_to from (Err status) mid
+  RemovesObsolete-unlisted usable mid status still locks cause = record {
     run = λ modelled. Run-mono (λ files same path. inl (ap (λ (f : Files). f path) same)) (still modelled);
     all = λ again. tt;
     left = λ again. inr (inl (tt, λ modelled. (still modelled).has));
     broken_keeps = λ is. absurd (usable is);
-    keeps = λ again kept. let never : false ≡ true = sym deletes ∙ kept in absurd (cc never);
     locks = locks;
     cause = record {
       later = cause.later;
       ok = tt;
-      cause = ⊎_elim (λ excused. inl (inl excused))
+      cause = ⊎_elim (λ excused. inl excused)
           (λ counted. inr (⊎_elim (λ one. inl (omega (arith, one))) (λ most. inr most) counted)) cause.cause;
     };
   }
 
-  -- files are kept
-  pub RemovesObsolete-kept : set.manifest ≢ broken → {keeps_files : Bool} → IsTrue keeps_files → (status : Status) → status.code ≡ Corruption → RemovesObsolete env set from keeps_files (Err status) from
-  RemovesObsolete-kept usable kept status code = record {
-    run = λ modelled. begun (env.observed from) (λ path. inl refl);
-    all = λ again. tt;
-    left = λ again. inr (inl (tt, λ modelled. refl));
-    broken_keeps = λ is. absurd (usable is);
-    keeps = λ again yes. (code, refl);
-    locks = λ modelled. refl;
-    cause = record { later = omega arith; ok = tt; cause = inl (inr (kept, code)) };
-  }
-
   module _ (usable : set.manifest ≢ broken) (mid : E) (listing : IsTrue env.models_disk → Run (FilesUnchanged (env.observed from).disk.files) (env.observed from) (env.observed mid)) (counted : env.failures mid ≡ env.failures from)
       (names : List (List ℕ)) (listed : IsTrue env.models_disk → ListsChildren (env.observed from).disk.files set.store names) (result : Result (Unit {0}) Status) (to : E)
-      (removes : RemovesNames env set mid names result to) where
+      (removes : RemovesNames env set kept_to mid names result to) where
     abbrev first_files : Files
     first_files = (env.observed from).disk.files
 
-    removing : IsTrue env.models_disk → Run (AreRemoved set first_files) (env.observed from) (env.observed to)
-    removing modelled = removing_after set (env.observed from) (env.observed mid) (env.observed to) (listing modelled) (removes.run modelled)
+    removing : IsTrue env.models_disk → Run (AreRemoved set kept_to first_files) (env.observed from) (env.observed to)
+    removing modelled = removing_after set kept_to (env.observed from) (env.observed mid) (env.observed to) (listing modelled) (removes.run modelled)
 
     gone_at : IsTrue env.models_disk → (path : List ℕ) → first_files path ≡ None → (env.observed to).disk.files path ≡ None
-    gone_at modelled path none = ⊎_elim (λ stays. stays ∙ none) (λ removed. removed.1) (removes_no_other set first_files (env.observed to).disk.files (removing modelled).has path)
+    gone_at modelled path none = ⊎_elim (λ stays. stays ∙ none) (λ removed. removed.1) (removes_no_other set kept_to first_files (env.observed to).disk.files (removing modelled).has path)
 
-    all_gone : (result' : Result (Unit {0}) Status) → OnOk result' (IsTrue env.models_disk → (name : List ℕ) → Contains names name → IsObsoleteName set name → (env.observed to).disk.files (in_folder set.store name) ≡ None)
-        → OnOk result' (IsTrue env.models_disk → (path : List ℕ) → IsObsoletePath set path → (env.observed to).disk.files path ≡ None)
+    all_gone : (result' : Result (Unit {0}) Status) → OnOk result' (IsTrue env.models_disk → (name : List ℕ) → Contains names name → IsObsoleteName set kept_to name → (env.observed to).disk.files (in_folder set.store name) ≡ None)
+        → OnOk result' (IsTrue env.models_disk → (path : List ℕ) → IsObsoletePath set kept_to path → (env.observed to).disk.files path ≡ None)
     all_gone (Err e) each = tt
     all_gone (Ok x) each = λ modelled path obsolete.
         subst (λ p. (env.observed to).disk.files p ≡ None) (sym obsolete.2) (by modelled obsolete.0 obsolete.1 (first_files (in_folder set.store obsolete.0)) refl)
       where
-        by : IsTrue env.models_disk → (name : List ℕ) → IsObsoleteName set name → (file : Option File) → first_files (in_folder set.store name) ≡ file → (env.observed to).disk.files (in_folder set.store name) ≡ None
+        by : IsTrue env.models_disk → (name : List ℕ) → IsObsoleteName set kept_to name → (file : Option File) → first_files (in_folder set.store name) ≡ file → (env.observed to).disk.files (in_folder set.store name) ≡ None
         by modelled name obsolete None none = gone_at modelled (in_folder set.store name) none
         by modelled name obsolete (Some file) some = each modelled name
             (((listed modelled).each name).1 (name_unslashed name obsolete.0 obsolete.1 obsolete.2, subst (λ o. IsSome o) (sym some) refl)) obsolete
 
-    left_here : IsTrue env.models_disk → LeavesFailed env set mid (λ name. Contains names name × IsObsoleteName set name) to → LeavesFailed env set from (IsObsoleteName set) to
+    left_here : IsTrue env.models_disk → LeavesFailed env set mid (λ name. Contains names name × IsObsoleteName set kept_to name) to → LeavesFailed env set from (IsObsoleteName set kept_to) to
     left_here modelled it = record {
       failed = it.failed;
       left = λ name obsolete some. it.left name (
@@ -615,23 +609,22 @@ module _ {E F : Type 0} (env : Ghosts E F) (set : VersionSetValue) (from : E) wh
             by None none = absurd (let never : false ≡ true = subst IsSome (gone_at modelled (in_folder set.store name) none) some in cc)
             by (Some file) is = subst IsSome (sym is) refl
 
-    pub RemovesObsolete-after : SameLocks env.models_disk (env.observed from) (env.observed mid) → {keeps_files : Bool} → keeps_files ≡ false → RemovesObsolete env set from keeps_files result to
-    RemovesObsolete-after locks {keeps_files} deletes = record {
-      run = λ modelled. Run-mono (removes_no_other set first_files) (removing modelled);
+    pub RemovesObsolete-after : SameLocks env.models_disk (env.observed from) (env.observed mid) → RemovesObsolete env set kept_to from result to
+    RemovesObsolete-after locks = record {
+      run = λ modelled. Run-mono (removes_no_other set kept_to first_files) (removing modelled);
       all = λ again. all_gone result removes.all;
       left = λ again. ⊎_elim (λ memory. inl memory) (λ before. inr (inr (λ modelled. left_here modelled (before modelled)))) removes.left;
       broken_keeps = λ is. absurd (usable is);
-      keeps = λ again kept. let never : false ≡ true = sym deletes ∙ kept in absurd (cc never);
       locks = λ modelled. removes.locks modelled ∙ locks modelled;
       cause = widened result (subst (λ n. HasFirstCause (λ status. IsOutOfMemory status ⊎ ((status.code ≡ NotFound) × (IsTrue env.models_disk → ⊥))) n (env.failures to) result) counted removes.cause);
     }
       where
         widened : {before now : ℕ} (result' : Result (Unit {0}) Status) → HasFirstCause (λ status. IsOutOfMemory status ⊎ ((status.code ≡ NotFound) × (IsTrue env.models_disk → ⊥))) before now result'
-            → HasFirstCause (λ status. IsEmptyFolder env.models_disk set.store (env.observed from) status ⊎ (IsTrue keeps_files × (status.code ≡ Corruption))) before now result'
+            → HasFirstCause (IsEmptyFolder env.models_disk set.store (env.observed from)) before now result'
         widened (Ok x) cause = record { later = cause.later; ok = cause.ok; cause = tt }
         widened (Err e) cause = record {
           later = cause.later;
           ok = tt;
-          cause = ⊎_elim (λ excused. inl (inl (⊎_elim (λ memory. inl memory)
-              (λ (missing : (e.code ≡ NotFound) × (IsTrue env.models_disk → ⊥)). inr (missing.0, λ modelled. absurd (missing.1 modelled))) excused))) (λ counted'. inr counted') cause.cause;
+          cause = ⊎_elim (λ excused. inl (⊎_elim (λ memory. inl memory)
+              (λ (missing : (e.code ≡ NotFound) × (IsTrue env.models_disk → ⊥)). inr (missing.0, λ modelled. absurd (missing.1 modelled))) excused)) (λ counted'. inr counted') cause.cause;
         }

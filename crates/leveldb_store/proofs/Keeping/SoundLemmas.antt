@@ -1,7 +1,7 @@
 -- Calls after which time has gone on and what was appended are bytes; and which of them break a
 -- store.
 use Rattle.std.specs.Prelude.{IsTrue}
-use Rattle.std.proofs.Common.{◌≡◌, ◌⊎◌, ◌∙◌, ◌+◌, ◌-◌, ◌^◌, ◌≤◌, inl, inr, ⊎_elim, ℕ, true, false, List, [], ◌∷◌, None, Some, Ok, Err, Result, ap, arith, subst, sym}
+use Rattle.std.proofs.Common.{◌≡◌, ◌⊎◌, ◌∙◌, ◌+◌, ◌-◌, ◌^◌, ◌≤◌, inl, inr, ⊎_elim, ℕ, true, false, List, [], ◌∷◌, Option, None, Some, Ok, Err, Result, ap, arith, subst, sym}
 use Rattle.std.specs.declared.cmp.Ordering.{Ordering}
 use Rattle.leveldb_base.proofs.HistoryLemmas.{in_cases, in_none}
 use Rattle.leveldb_base.specs.Error.{IsOutOfMemory}
@@ -94,9 +94,9 @@ table_frame_bytes writer set log file fits =
     (λ none. absurd (in_none other none)) (in_cases file other [] c)))
 
 -- obsolete files are deleted
-pub removal_bytes : (set : VersionSetValue) (before after : Files)
-    → RemovesNoOther set before after → AppendedAreBytes before → AppendedAreBytes after
-removal_bytes set before after removes bytes name file is = ⊎_elim
+pub removal_bytes : (set : VersionSetValue) (kept_to : Option ℕ) (before after : Files)
+    → RemovesNoOther set kept_to before after → AppendedAreBytes before → AppendedAreBytes after
+removal_bytes set kept_to before after removes bytes name file is = ⊎_elim
     (λ same. bytes name file (sym same ∙ is))
     (λ gone. let never : None ≡ Some file = sym gone.1 ∙ is in absurd (cc never)) (removes name)
 

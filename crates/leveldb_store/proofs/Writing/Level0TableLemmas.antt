@@ -376,7 +376,7 @@ module _ {E F C D FP : Type 0} {order : CmpGhosts D} {filters : FilterGhosts FP}
     store = refl;
     cmp = refl;
     last = refl;
-    keeps_files = refl;
+    kept_to = refl;
     files = λ modelled path other. refl;
     numbers = omega arith;
     tables = λ modelled number fits given. same_or_gone
@@ -460,7 +460,7 @@ module _ {E F C D FP : Type 0} {order : CmpGhosts D} {filters : FilterGhosts FP}
         store = refl;
         cmp = refl;
         last = refl;
-        keeps_files = refl;
+        kept_to = refl;
         files = spares_made (Err status) m;
         numbers = omega arith;
         tables = λ modelled. given_same old.set (env.observed from).disk.files
@@ -585,7 +585,7 @@ module _ {E F C D FP : Type 0} {order : CmpGhosts D} {filters : FilterGhosts FP}
           store = either (λ s. s.store) refl refl;
           cmp = refl;
           last = either (λ s. s.last_sequence) refl refl;
-          keeps_files = refl;
+          kept_to = refl;
           files = spares_logged (Err status) l;
           numbers = rises;
           tables = λ modelled. given_same old.set (env.observed from).disk.files
@@ -648,7 +648,7 @@ module _ {E F C D FP : Type 0} {order : CmpGhosts D} {filters : FilterGhosts FP}
           store = ap (λ (s : VersionSetValue). s.store) l.ok;
           cmp = refl;
           last = ap (λ (s : VersionSetValue). s.last_sequence) l.ok;
-          keeps_files = refl;
+          kept_to = refl;
           files = spares_logged (Ok tt) l;
           numbers = omega (arith, ap (λ (s : VersionSetValue). s.next_file) l.ok);
           tables = λ modelled. given_same old.set (env.observed from).disk.files

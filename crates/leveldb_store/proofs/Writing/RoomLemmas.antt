@@ -72,7 +72,7 @@ module _ {C : Type 0} {models_disk : Bool} where
     store = second.store ∙ first.store;
     cmp = second.cmp ∙ first.cmp;
     last = second.last ∙ first.last;
-    keeps_files = second.keeps_files ∙ first.keeps_files;
+    kept_to = second.kept_to ∙ first.kept_to;
     files = λ modelled path spared. second.files modelled path
         (λ its. spared (subst (λ (s : List ℕ). IsDataPath s path) first.store its))
         ∙ first.files modelled path spared;
@@ -94,10 +94,10 @@ obsolete_is_data set n Current is = is
 obsolete_is_data set n InfoLog is = is
 
 -- so the others stay where obsolete ones are removed
-others_stay : (set : VersionSetValue) (before after : Files) → RemovesNoOther set before after
-    → (path : List ℕ) → (IsDataPath set.store path → ⊥) → after path ≡ before path
-others_stay set before after removes path spared = ⊎_elim (λ same. same)
-    (λ (gone : IsObsoletePath set path × (after path ≡ None)).
+others_stay : (set : VersionSetValue) (kept_to : Option ℕ) (before after : Files)
+    → RemovesNoOther set kept_to before after → (path : List ℕ) → (IsDataPath set.store path → ⊥) → after path ≡ before path
+others_stay set kept_to before after removes path spared = ⊎_elim (λ same. same)
+    (λ (gone : IsObsoletePath set kept_to path × (after path ≡ None)).
     let name = gone.0.1 in
     absurd (spared (
       name.1,
@@ -135,7 +135,7 @@ module _ {E F C : Type 0} (env : Ghosts E F) (cmp : List ℕ → List ℕ → Or
       store = refl;
       cmp = refl;
       last = refl;
-      keeps_files = refl;
+      kept_to = refl;
       files = λ modelled path spared. refl;
       numbers = omega arith;
       tables = λ modelled. given_same old.set (env.observed from).disk.files
@@ -157,11 +157,11 @@ module _ {E F C : Type 0} (env : Ghosts E F) (cmp : List ℕ → List ℕ → Or
       store = refl;
       cmp = refl;
       last = refl;
-      keeps_files = refl;
-      files = λ modelled. others_stay old.set (env.observed from).disk.files
+      kept_to = refl;
+      files = λ modelled. others_stay old.set old.kept_to (env.observed from).disk.files
           (env.observed to).disk.files (tidied.others modelled);
       numbers = omega arith;
-      tables = λ modelled. given_removed old.set (env.observed from).disk.files
+      tables = λ modelled. given_removed old.set old.kept_to (env.observed from).disk.files
           (env.observed to).disk.files (tidied.others modelled);
       locks = tidied.locks;
     };

@@ -320,7 +320,7 @@ module _ {E F C : Type 0} (env : Ghosts E F) (old : OpenStoreValue C) (from : E)
     store = left_by_sync (λ (v : OpenStoreValue C). v.set.store ≡ old.set.store) (λ writer. refl) result new to sync;
     cmp = left_by_sync (λ (v : OpenStoreValue C). v.cmp ≡ old.cmp) (λ writer. refl) result new to sync;
     last = left_by_sync (λ (v : OpenStoreValue C). v.set.last_sequence ≡ old.set.last_sequence) (λ writer. refl) result new to sync;
-    keeps_files = left_by_sync (λ (v : OpenStoreValue C). v.keeps_files ≡ old.keeps_files) (λ writer. refl) result new to sync;
+    kept_to = left_by_sync (λ (v : OpenStoreValue C). v.kept_to ≡ old.kept_to) (λ writer. refl) result new to sync;
     files = λ modelled. others_stay old.set.store old.log.number fits (env.observed from).disk.files (env.observed to).disk.files
         (SameBut-synced (open_log_path old) (env.observed from).disk.files (env.observed to).disk.files ((sync.does modelled).now modelled));
     numbers = left_by_sync (λ (v : OpenStoreValue C). old.set.next_file ≤ v.set.next_file) (λ writer. omega arith) result new to sync;
@@ -341,7 +341,7 @@ module _ {E F C : Type 0} (env : Ghosts E F) (old : OpenStoreValue C) (from : E)
     store = rest.store;
     cmp = rest.cmp;
     last = rest.last;
-    keeps_files = rest.keeps_files;
+    kept_to = rest.kept_to;
     files = rest.files;
     numbers = let least = rest.numbers in omega (arith, least);
     tables = λ modelled number fits given. rest.tables modelled number fits (omega (arith, given));
@@ -384,12 +384,12 @@ module _ {E F C : Type 0} (env : Ghosts E F) (old : OpenStoreValue C) (from : E)
       files = λ modelled number fits given. same_tables modelled number;
     }
 
-    spares : (new : OpenStoreValue C) → new.set ≡ with_number_given old.set → new.cmp ≡ old.cmp → new.keeps_files ≡ old.keeps_files → SparesRest env.models_disk old (env.observed from) new (env.observed to)
+    spares : (new : OpenStoreValue C) → new.set ≡ with_number_given old.set → new.cmp ≡ old.cmp → new.kept_to ≡ old.kept_to → SparesRest env.models_disk old (env.observed from) new (env.observed to)
     spares new set same_cmp same_keeps = record {
       store = ap (λ (v : VersionSetValue). v.store) set;
       cmp = same_cmp;
       last = ap (λ (v : VersionSetValue). v.last_sequence) set;
-      keeps_files = same_keeps;
+      kept_to = same_keeps;
       files = λ modelled path other. others_stay old.set.store old.set.next_file (omega (arith, more)) (env.observed mid).disk.files (env.observed to).disk.files
           (SameBut-emptied (log_path old.set.store old.set.next_file) (env.observed mid).disk.files (env.observed to).disk.files (opening.now modelled)) path other
           ∙ rest.files modelled path other;
@@ -424,7 +424,7 @@ module _ {E F C : Type 0} (env : Ghosts E F) (old : OpenStoreValue C) (from : E)
     }
 
     -- the log was switched
-    pub switched : (new : OpenStoreValue C) → new.cmp ≡ old.cmp → new.keeps_files ≡ old.keeps_files → new.current ≡ old.current → new.set ≡ with_number_given old.set → new.log ≡ record { number = old.set.next_file; writer = new_writer log_block_size 0 } → new.mem.entries ≡ [] → new.mem.places ≡ 0 → new.imm ≡ Some old.mem
+    pub switched : (new : OpenStoreValue C) → new.cmp ≡ old.cmp → new.kept_to ≡ old.kept_to → new.current ≡ old.current → new.set ≡ with_number_given old.set → new.log ≡ record { number = old.set.next_file; writer = new_writer log_block_size 0 } → new.mem.entries ≡ [] → new.mem.places ≡ 0 → new.imm ≡ Some old.mem
         → env.failures to ≡ env.failures mid → SwitchesLog env old from (Ok tt) new to
     switched new same_cmp same_keeps same_current set log empty places waits counted = record {
       set = set;

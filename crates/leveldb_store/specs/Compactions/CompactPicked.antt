@@ -1,13 +1,13 @@
 -- What the calls leave of an open store that do one compaction, if there is one to do, and delete
 -- obsolete files after it.
-use Rattle.std.specs.Prelude.{◌≡◌, ℕ, List, Option, None, Result, Ok, IfSome, OnErr, OnOk}
+use Rattle.std.specs.Prelude.{◌≡◌, ℕ, List, Option, None, Result, Ok, IfSome, IsTrue, OnErr, OnOk}
 use Rattle.std.specs.declared.cmp.Ordering.{Ordering}
 use Rattle.leveldb_base.specs.declared.error.Status.{Status}
 use Rattle.leveldb_env.specs.declared.env.Env.{Ghosts}
 use Rattle.leveldb_version_set.specs.Compactions.Picking.{CompactionValue}
 use Rattle.leveldb_version.specs.declared.table_cache.TableCache.{TableCache}
 use Rattle.leveldb_store.specs.Compactions.Compact.{EndsByRemoval, LogsCompaction}
-use Rattle.leveldb_store.specs.Keeping.KeptBytes.{NewTablesLoseNothing}
+use Rattle.leveldb_store.specs.Keeping.KeptBytes.{AreKept, NewTablesLoseNothing}
 use Rattle.leveldb_store.specs.Keeping.KeptEntries.{CompactsOnceAtMost}
 use Rattle.leveldb_store.specs.Keeping.OpenStore.{OpenStoreValue}
 use Rattle.leveldb_store.specs.Keeping.SoundCall.{BreaksForCause}
@@ -36,5 +36,9 @@ pub record CompactsWithoutLoss {E F C : Type 0} (env : Ghosts E F)
   pub once : CompactsOnceAtMost cmp env.models_disk old (env.observed from) new (env.observed to)
   -- where no table has the numbers that come next
   pub kept : OnErr result (NewTablesLoseNothing env old.set.store from to old.set.next_file)
+  -- nor does an Ok lose a byte of a store that keeps each file that is there
+  pub keeps : (IsTrue env.models_disk
+      → AreKept old.set.store (env.observed from).disk.files old.kept_to)
+      → NewTablesLoseNothing env old.set.store from to old.set.next_file
   -- the manifest was lost, or the device failed
   pub breaks : BreaksForCause env old from result new to

@@ -1,7 +1,9 @@
 -- Which bytes of a store's files a call keeps, whatever the files are.
-use Rattle.std.specs.Prelude.{◌≡◌, ◌≢◌, ◌<◌, ◌^◌, ◌++◌, ◌⊎◌, ℕ, List, Option, None, Some, IsTrue}
+use Rattle.std.specs.Prelude.{◌≡◌, ◌≢◌, ◌≤◌, ◌<◌, ◌^◌, ◌++◌, ◌⊎◌, ℕ, List, Option, None, Some, IsTrue}
+use Rattle.leveldb_base.specs.Names.{IsFileName}
+use Rattle.leveldb_base.specs.declared.types.FileType.{FileType}
 use Rattle.leveldb_base.specs.declared.types.FileType.TheVariants.{Temp}
-use Rattle.leveldb_env.specs.Env.{File, Files, Run, bytes_of}
+use Rattle.leveldb_env.specs.Env.{File, Files, Run, bytes_of, in_folder}
 use Rattle.leveldb_env.specs.declared.env.Env.{Ghosts}
 use Rattle.leveldb_files.specs.Stores.Paths.{IsFilePath, current_path, manifest_path, table_path}
 use Rattle.leveldb_version_set.specs.Sets.VersionSetValue.{VersionSetValue, unmade}
@@ -42,6 +44,21 @@ pub record HasNewNumbers (store : List ℕ) (set : VersionSetValue) (files : Fil
   pub below : NumbersAreBelow store files set.next_file
   pub manifest : set.manifest ≡ unmade
       → files (manifest_path store set.manifest_number) ≡ None
+
+-- a store that keeps its files up to a number, if one is given, keeps one of this number
+abbrev pub IsKept : Option ℕ → ℕ → Type 0
+IsKept None n = ⊥
+IsKept (Some last) n = n ≤ last
+
+-- it keeps each file of its folder that is there and has a store's name
+abbrev pub AreKept : List ℕ → Files → Option ℕ → Type 0
+AreKept store files kept_to = (name : List ℕ) (n : ℕ) (kind : FileType) → IsFileName name n kind
+    → files (in_folder store name) ≢ None → IsKept kept_to n
+
+-- a file of the folder has this number
+abbrev pub HasNumberThere : List ℕ → Files → ℕ → Type 0
+HasNumberThere store files n = (name : List ℕ) × (kind : FileType) × IsFileName name n kind
+    × (files (in_folder store name) ≢ None)
 
 -- ---- calls
 

@@ -32,8 +32,8 @@ pub record OpenStoreValue (C : Type 0) : Type 0 where
   -- the memtable of that log, and the immutable one, of the logs before it, which is to be a table
   pub mem : Kept
   pub imm : Option Kept
-  -- whether no file of it is deleted, since one of them is damaged
-  pub keeps_files : Bool
+  -- the greatest number of the files that are kept, if some are, since one of them is damaged
+  pub kept_to : Option ℕ
 
 -- no call on its manifest or its log has failed
 pub record IsUnbroken {C : Type 0} (value : OpenStoreValue C) : Type 0 where

@@ -115,14 +115,14 @@ KeepsGivenTables set before after = (number : ℕ) → number < 2 ^ 64 → numbe
     → IsSameOrGone (before (table_path set.store number)) (after (table_path set.store number))
 
 -- What a call leaves alone that adds no batch: the store's path, its order, its last number and
--- whether it keeps files; all files but logs, tables, manifests and temporary files of the store;
+-- which files it keeps; all files but logs, tables, manifests and temporary files of the store;
 -- and all locks. Numbers that were given stay so, and their tables keep their bytes or are gone.
 pub record SparesRest {C : Type 0} (models_disk : Bool) (old : OpenStoreValue C) (from : Observed)
     (new : OpenStoreValue C) (to : Observed) : Type 0 where
   pub store : new.set.store ≡ old.set.store
   pub cmp : new.cmp ≡ old.cmp
   pub last : new.set.last_sequence ≡ old.set.last_sequence
-  pub keeps_files : new.keeps_files ≡ old.keeps_files
+  pub kept_to : new.kept_to ≡ old.kept_to
   pub files : IsTrue models_disk → (path : List ℕ) → (IsDataPath old.set.store path → ⊥)
       → to.disk.files path ≡ from.disk.files path
   pub numbers : old.set.next_file ≤ new.set.next_file

@@ -1,6 +1,6 @@
 -- What is left out of a log or a manifest, which is read up to its first bad end.
 use Rattle.std.specs.List.{concat}
-use Rattle.std.specs.Prelude.{◌≡◌, ◌≢◌, ◌≤◌, ◌%◌, ◌⊎◌, ◌↔◌, ◌++◌, ◌==◌, ◌||◌, ◌∷◌, [], ℕ, Bool, List, IsSomeAnd, IsTrue, drop, false, if◌then◌else◌, length, take, true}
+use Rattle.std.specs.Prelude.{◌≡◌, ◌≢◌, ◌≤◌, ◌%◌, ◌⊎◌, ◌↔◌, ◌++◌, ◌==◌, ◌||◌, ◌∷◌, [], ℕ, Bool, List, None, Option, Some, IsSomeAnd, IsTrue, drop, false, if◌then◌else◌, length, take, true}
 use Rattle.leveldb_base.specs.Names.{IsFileName}
 use Rattle.leveldb_base.specs.declared.types.FileType.{FileType}
 use Rattle.leveldb_base.specs.declared.types.FileType.TheVariants.{Descriptor, Log}
@@ -80,9 +80,20 @@ pub record IsDamagedFile (set : VersionSetValue) (files : Files) (name : List �
   pub aside : IsLeftAside set kind number
   pub loses : IsSomeAnd (files (in_folder set.store name)) (λ file. LosesRecords (bytes_of file))
 
+-- the path of such a file
+abbrev pub IsDamagedPath : VersionSetValue → Files → List ℕ → Type 0
+IsDamagedPath set files path =
+    (name : List ℕ) × IsDamagedFile set files name × (path ≡ in_folder set.store name)
+
 -- there is such a file
 abbrev pub HasDamagedFile : VersionSetValue → Files → Type 0
 HasDamagedFile set files = (name : List ℕ) × IsDamagedFile set files name
+
+-- the path of the file of this name, if it is damaged
+abbrev pub IsPathIfDamaged : VersionSetValue → Files → List ℕ → Option (List ℕ) → Type 0
+IsPathIfDamaged set files name None = IsDamagedFile set files name → ⊥
+IsPathIfDamaged set files name (Some path) =
+    IsDamagedFile set files name × (path ≡ in_folder set.store name)
 
 -- ---- one fragment after the other
 

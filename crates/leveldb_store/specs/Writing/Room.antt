@@ -47,11 +47,11 @@ abbrev pub but_removal : Result (Result (Unit {0}) Status) Status → Result (Un
 but_removal (Ok removal) = Ok tt
 but_removal (Err status) = Err status
 
--- the last that was done is a removal of the files of this store that are obsolete
+-- the last that was done is a removal of the files of this store that are obsolete and aren't kept
 abbrev pub RemovesAtLast : {E F C : Type 0} → Ghosts E F → OpenStoreValue C
     → Result (Unit {0}) Status → E → Type 0
 RemovesAtLast {E} env value removal to =
-    (at : E) × RemovesObsolete env value.set at value.keeps_files removal to
+    (at : E) × RemovesObsolete env value.set value.kept_to at removal to
 
 -- ---- room
 
@@ -113,7 +113,8 @@ module _ {E F C : Type 0} (env : Ghosts E F) (cmp : List ℕ → List ℕ → Or
   -- What a deletion of obsolete files keeps, whatever it returns.
   pub record TidiesUp (to : E) : Type 0 where
     pub others : IsTrue env.models_disk
-        → RemovesNoOther old.set (env.observed from).disk.files (env.observed to).disk.files
+        → RemovesNoOther old.set old.kept_to (env.observed from).disk.files
+        (env.observed to).disk.files
     pub keeps : IsTrue env.models_disk → (meaning : Meaning)
         → KeepsWritten cmp meaning old (env.observed from) old (env.observed to)
     pub locks : SameLocks env.models_disk (env.observed from) (env.observed to)

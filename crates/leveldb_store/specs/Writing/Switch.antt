@@ -1,13 +1,13 @@
 -- What a switch of the log, the table of the immutable memtable, and the removal of obsolete files
 -- change of an open store, and why each fails.
-use Rattle.std.specs.Prelude.{◌≡◌, ◌≢◌, ◌⊎◌, ◌≤◌, ◌<◌, ◌+◌, ◌-◌, ◌^◌, ℕ, Bool, List, [], ◌∷◌, All, Contains, None, Some, Result, Ok, Err, IfErr, IsErrAnd, IsSome, OnErr, OnOk, IsTrue, length}
+use Rattle.std.specs.Prelude.{◌≡◌, ◌≢◌, ◌⊎◌, ◌≤◌, ◌<◌, ◌+◌, ◌-◌, ◌^◌, ℕ, List, [], ◌∷◌, All, Contains, Option, None, Some, Result, Ok, Err, IfErr, IsErrAnd, IsSome, OnErr, OnOk, IsTrue, length}
 use Rattle.leveldb_base.specs.Error.{IsOutOfMemory}
 use Rattle.leveldb_base.specs.Names.{IsFileName}
 use Rattle.leveldb_base.specs.Types.{Pair}
 use Rattle.std.specs.declared.cmp.Ordering.{Ordering}
 use Rattle.leveldb_base.specs.declared.cmp.Cmp.{Ghosts as CmpGhosts}
 use Rattle.leveldb_base.specs.declared.error.Status.{Status}
-use Rattle.leveldb_base.specs.declared.error.StatusCode.TheVariants.{Corruption, NotFound, NotSupported, OutOfMemory}
+use Rattle.leveldb_base.specs.declared.error.StatusCode.TheVariants.{NotFound, NotSupported, OutOfMemory}
 use Rattle.leveldb_base.specs.declared.types.FileType.{FileType}
 use Rattle.leveldb_env.specs.Env.{BeforeOrAfter, ChangesFiles, Files, HasCause, IsEmptyFolder, IsMissing, Run, SameLocks, deleted, in_folder}
 use Rattle.leveldb_env.specs.WholeFiles.{IsLost}
@@ -23,6 +23,7 @@ use Rattle.leveldb_files.specs.Edits.Edit.{NewFile}
 use Rattle.leveldb_version_set.specs.Sets.VersionSetValue.{AreFileNumbersUsedUp, OpenManifest, VersionSetValue, broken, in_use, with_number_given}
 use Rattle.leveldb_version_set.specs.Engines.Writing.{IsObsolete, table_edit}
 use Rattle.leveldb_store.specs.Tables.BuildTable.{IsNotBuilt, TableChoices}
+use Rattle.leveldb_store.specs.Keeping.KeptBytes.{IsKept}
 use Rattle.leveldb_store.specs.Keeping.OpenStore.{OpenStoreValue}
 use Rattle.leveldb_store.specs.Writing.Write.{IsLogLost}
 use Rattle.leveldb_store.specs.Keeping.Written.{KeepsTables, SparesRest}
@@ -151,23 +152,24 @@ abbrev pub without_files : List (List ℕ) → Files → Files
 without_files [] files = files
 without_files (path ∷ paths) files = deleted path (without_files paths files)
 
-module _ (set : VersionSetValue) where
-  -- a name of an obsolete file
+module _ (set : VersionSetValue) (kept_to : Option ℕ) where
+  -- a name of an obsolete file that isn't kept
   abbrev pub IsObsoleteName : List ℕ → Type 0
   IsObsoleteName name =
       (n : ℕ) × (kind : FileType) × IsFileName name n kind × IsObsolete set kind n
+      × (IsKept kept_to n → ⊥)
 
-  -- a path of an obsolete file
+  -- a path of such a file
   abbrev pub IsObsoletePath : List ℕ → Type 0
   IsObsoletePath path =
       (name : List ℕ) × IsObsoleteName name × (path ≡ in_folder set.store name)
 
-  -- each file stays as it is, or is obsolete and gone
+  -- each file stays as it is, or is one of these and gone
   abbrev pub RemovesNoOther : Files → Files → Type 0
   RemovesNoOther before after = (path : List ℕ) → (after path ≡ before path)
       ⊎ (IsObsoletePath path × (after path ≡ None))
 
-  -- some files were removed, all of them obsolete
+  -- some files were removed, all of them such ones
   abbrev pub AreRemoved : Files → Files → Type 0
   AreRemoved before after =
       (paths : List (List ℕ)) × All IsObsoletePath paths × (after ≡ without_files paths before)
@@ -196,48 +198,48 @@ module _ {E F : Type 0} (env : Ghosts E F) (set : VersionSetValue) (from : E) wh
   IsUnlisted result to = OnOk result ⊥ × (IsTrue env.models_disk
       → (env.observed to).disk.files ≡ (env.observed from).disk.files)
 
-  -- Obsolete files were removed, and no others; after an Err some of them may be there still. A
-  -- set that is broken removes none, and a store that keeps files does neither.
-  pub record RemovesObsolete (keeps_files : Bool) (result : Result (Unit {0}) Status) (to : E)
-      : Type 0 where
+module _ {E F : Type 0} (env : Ghosts E F) (set : VersionSetValue) (kept_to : Option ℕ)
+    (from : E) where
+  -- Obsolete files that aren't kept were removed, and no others; after an Err some of them may be
+  -- there still. A set that is broken removes none.
+  pub record RemovesObsolete (result : Result (Unit {0}) Status) (to : E) : Type 0 where
     -- now and at each moment on the way
-    pub run : IsTrue env.models_disk → Run (RemovesNoOther set (env.observed from).disk.files)
-        (env.observed from) (env.observed to)
-    pub all : set.manifest ≢ broken → OnOk result (IsTrue env.models_disk
-        → (path : List ℕ) → IsObsoletePath set path → (env.observed to).disk.files path ≡ None)
+    pub run : IsTrue env.models_disk
+        → Run (RemovesNoOther set kept_to (env.observed from).disk.files) (env.observed from)
+        (env.observed to)
+    pub all : set.manifest ≢ broken → OnOk result (IsTrue env.models_disk → (path : List ℕ)
+        → IsObsoletePath set kept_to path → (env.observed to).disk.files path ≡ None)
     -- a deletion that fails stops no other, unless memory is out
-    pub left : set.manifest ≢ broken → IsMemoryOut result ⊎ IsUnlisted result to
-        ⊎ (IsTrue env.models_disk → LeavesFailed (IsObsoleteName set) to)
+    pub left : set.manifest ≢ broken → IsMemoryOut result ⊎ IsUnlisted env set from result to
+        ⊎ (IsTrue env.models_disk → LeavesFailed env set from (IsObsoleteName set kept_to) to)
     pub broken_keeps : set.manifest ≡ broken → (result ≡ Ok tt) × (to ≡ from)
-    pub keeps : set.manifest ≢ broken → IsTrue keeps_files
-        → IsErrAnd result (λ status. status.code ≡ Corruption) × (to ≡ from)
     pub locks : SameLocks env.models_disk (env.observed from) (env.observed to)
-    -- out of memory, the folder has no file, files are kept, or a call of the device failed; where
-    -- no disk is modelled, a file may be missing that was listed
-    pub cause : HasFirstCause (λ status.
-        IsEmptyFolder env.models_disk set.store (env.observed from) status
-        ⊎ (IsTrue keeps_files × (status.code ≡ Corruption))) (env.failures from)
-        (env.failures to) result
+    -- out of memory, the folder has no file, or a call of the device failed; where no disk is
+    -- modelled, a file may be missing that was listed
+    pub cause : HasFirstCause (IsEmptyFolder env.models_disk set.store (env.observed from))
+        (env.failures from) (env.failures to) result
 
   -- ---- one file after the other
 
-  -- the file of a name was deleted, or it isn't obsolete and no call was made
+  -- the file of a name was deleted, or it isn't to be removed and no call was made
   abbrev pub RemovesName : List ℕ → Result (Unit {0}) Status → E → Type 0
   RemovesName name result to =
-      (IsObsoleteName set name × DeletesFile env from (in_folder set.store name) result to)
-      ⊎ ((IsObsoleteName set name → ⊥) × (result ≡ Ok tt) × (to ≡ from))
+      (IsObsoleteName set kept_to name × DeletesFile env from (in_folder set.store name) result to)
+      ⊎ ((IsObsoleteName set kept_to name → ⊥) × (result ≡ Ok tt) × (to ≡ from))
 
-  -- Of the files of these names in the folder, each of which was there, the obsolete ones were
-  -- deleted, or some of them after an Err.
+  -- Of the files of these names in the folder, each of which was there, those that are to be
+  -- removed were deleted, or some of them after an Err.
   pub record RemovesNames (names : List (List ℕ)) (result : Result (Unit {0}) Status) (to : E)
       : Type 0 where
-    pub run : IsTrue env.models_disk → Run (AreRemoved set (env.observed from).disk.files)
-        (env.observed from) (env.observed to)
+    pub run : IsTrue env.models_disk
+        → Run (AreRemoved set kept_to (env.observed from).disk.files) (env.observed from)
+        (env.observed to)
     pub all : OnOk result (IsTrue env.models_disk → (name : List ℕ) → Contains names name
-        → IsObsoleteName set name
+        → IsObsoleteName set kept_to name
         → (env.observed to).disk.files (in_folder set.store name) ≡ None)
     pub left : IsMemoryOut result ⊎ (IsTrue env.models_disk
-        → LeavesFailed (λ name. Contains names name × IsObsoleteName set name) to)
+        → LeavesFailed env set from (λ name. Contains names name × IsObsoleteName set kept_to name)
+        to)
     pub locks : SameLocks env.models_disk (env.observed from) (env.observed to)
     pub cause : HasFirstCause (λ status. IsOutOfMemory status
         ⊎ ((status.code ≡ NotFound) × (IsTrue env.models_disk → ⊥)))

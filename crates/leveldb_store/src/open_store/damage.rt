@@ -1,8 +1,11 @@
 //! Logs and manifests that an opening left aside: what it left out of them, and what is kept then.
-ghost use Rattle.std.specs.Prelude.{◌≡◌, ◌≤◌, ◌↔◌, ℕ, List, Contains, IfOk, IsTrue, is_some, map, string_bytes};
+ghost use Rattle.std.specs.Prelude.{◌≡◌, ◌≤◌, ◌⊎◌, ◌↔◌, [], ℕ, List, Contains, Err, IfErr, IfOk, IsTrue, Ok, is_some, map, string_bytes};
+ghost use Rattle.std.specs.Option.{option_map};
+ghost use Rattle.leveldb_base.specs.Names.{IsFileName};
 ghost use Rattle.leveldb_table.specs.TableBlock.{KeepsDisk};
-ghost use Rattle.leveldb_store.specs.Logs.Damage.{HasDamagedFile, IsDamagedFile, IsLeftAside};
 ghost use Rattle.leveldb_files.specs.Stores.Paths.{log_path};
+ghost use Rattle.leveldb_store.specs.Logs.Damage.{IsLeftAside};
+ghost use Rattle.leveldb_store.specs.Openings.EndsOpening.{LooksAtName, LooksAtNames, LooksForDamage};
 ghost use Rattle.leveldb_store.specs.Logs.LogReplay.{EndsCleanly};
 
 use super::OpenStore;
@@ -21,82 +24,86 @@ use leveldb_version::table_cache::TableCache;
 use std::alloc::Global;
 
 impl<E: Env, C: UserCmp + Copy + Drop> OpenStore<E, C> {
-    /// Looks at each log and each manifest that is obsolete. One that is damaged is a line for
-    /// `log`: where whole records are left out of it, or what is left out isn't the end that a
-    /// crash leaves. If there is one, or if one can't be read, the store keeps its files: it
-    /// deletes none while it is open, so that a repair can find what was left out, and the tables
-    /// that it names.
-    pub(super) fn keep_damaged_files(&mut self, env: &mut E, log: &mut Option<Logger>)
-        ensures same { self.new ≡ record self.old { keeps_files = self.new.keeps_files } }
-        ensures damaged { IsTrue E.models_disk
-            → HasDamagedFile self.old.set (E.observed env.old).disk.files
-            → IsTrue self.new.keeps_files }
+    /// Looks at each log and each manifest that is obsolete. One that has bytes after its first bad
+    /// end is a line for `log`, and is damaged if a whole record is among them. Where one is, the
+    /// store keeps what is there now: files up to the greatest number aren't deleted while it is
+    /// open, so that whoever copies the folder has what was left out, and the tables that it names.
+    /// So they are where one of them can't be read, or the folder can't be: an Err says why.
+    /// Returns the paths of the damaged files.
+    pub(super) fn keep_damaged_files(
+        &mut self,
+        env: &mut E,
+        log: &mut Option<Logger>,
+    ) -> Result<Vec<String>>
+        ensures same { self.new ≡ record self.old { kept_to = self.new.kept_to } }
+        ensures ok { IfOk result (λ paths. LooksForDamage E.Env self.old.set env.old
+            self.new.kept_to (map string_bytes paths.items) (Ok tt) env.new) }
+        ensures err { IfErr result (λ status. LooksForDamage E.Env self.old.set env.old
+            self.new.kept_to [] (Err status) env.new) }
         ensures keeps { KeepsDisk E.Env env.old env.new }
-        ensures later { E.failures env.old ≤ E.failures env.new }
         ensures log { is_some log.new ≡ is_some log.old }
     {
-        self.keeps_files = self.tell_damage(env, log);
-    }
-
-    // Tells of each damaged file that was left aside. Returns whether there is one, or one that
-    // can't be read.
-    fn tell_damage(&self, env: &mut E, log: &mut Option<Logger>) -> bool
-        ensures damaged { IsTrue E.models_disk
-            → HasDamagedFile self.now.set (E.observed env.old).disk.files → IsTrue result }
-        ensures keeps { KeepsDisk E.Env env.old env.new }
-        ensures later { E.failures env.old ≤ E.failures env.new }
-        ensures log { is_some log.new ≡ is_some log.old }
-    {
-        let Ok(names) = env.children(self.alloc, &self.name) else {
-            return true;
-        };
-        self.tell_damage_of(env, &names, log)
-    }
-
-    // The same for those of the files of these names.
-    fn tell_damage_of(&self, env: &mut E, names: &[String], log: &mut Option<Logger>) -> bool
-        ensures damaged { IsTrue E.models_disk → (name : List ℕ)
-            → Contains (map string_bytes names.now) name
-            → IsDamagedFile self.now.set (E.observed env.old).disk.files name → IsTrue result }
-        ensures keeps { KeepsDisk E.Env env.old env.new }
-        ensures later { E.failures env.old ≤ E.failures env.new }
-        ensures log { is_some log.new ≡ is_some log.old }
-    {
-        let mut is_damaged = false;
-        for name in names {
-            is_damaged |= self.tell_damage_at(env, name, log);
+        self.kept_to = Some(self.versions.next_file_num().saturating_sub(1));
+        let names = env.children(self.alloc, &self.name)?;
+        self.kept_to = Some(greatest_number(&names));
+        let paths = self.tell_damage(env, &names, log)?;
+        if paths.is_empty() {
+            self.kept_to = None;
         }
-        is_damaged
+        Ok(paths)
+    }
+
+    // Tells what is left out of each of the files of these names that was left aside. Returns the
+    // paths of those that are damaged.
+    fn tell_damage(
+        &self,
+        env: &mut E,
+        names: &[String],
+        log: &mut Option<Logger>,
+    ) -> Result<Vec<String>>
+        ensures looks { LooksAtNames E.Env self.now.set env.old (map string_bytes names.now)
+            (λ paths. map string_bytes paths.items) result env.new }
+        ensures keeps { KeepsDisk E.Env env.old env.new }
+        ensures log { is_some log.new ≡ is_some log.old }
+    {
+        let mut paths = Vec::new(self.alloc);
+        for name in names {
+            let Some(path) = self.tell_damage_at(env, name, log)? else {
+                continue;
+            };
+            paths.push(path)?;
+        }
+        Ok(paths)
     }
 
     // The same for the file of this name.
-    fn tell_damage_at(&self, env: &mut E, name: &str, log: &mut Option<Logger>) -> bool
-        ensures damaged { IsTrue E.models_disk
-            → IsDamagedFile self.now.set (E.observed env.old).disk.files name.now → IsTrue result }
+    fn tell_damage_at(
+        &self,
+        env: &mut E,
+        name: &str,
+        log: &mut Option<Logger>,
+    ) -> Result<Option<String>>
+        ensures looks { LooksAtName E.Env self.now.set env.old name.now (option_map string_bytes)
+            result env.new }
         ensures keeps { KeepsDisk E.Env env.old env.new }
-        ensures later { E.failures env.old ≤ E.failures env.new }
         ensures log { is_some log.new ≡ is_some log.old }
     {
         let Some((number, kind)) = file_name_parts(name) else {
-            return false;
+            return Ok(None);
         };
         if !self.is_left_aside(number, kind) {
-            return false;
+            return Ok(None);
         }
-        let Ok(path) = format!(in self.alloc; "{}/{name}", self.name) else {
-            return true;
-        };
+        let path = format!(in self.alloc; "{}/{name}", self.name)?;
         if self.ends_cleanly(env, &path, number) {
-            return false;
+            return Ok(None);
         }
-        let Ok(text) = read_file(self.alloc, env, &path) else {
-            return true;
-        };
+        let text = read_file(self.alloc, env, &path)?;
         let Some(left) = left_out(&text) else {
-            return false;
+            return Ok(None);
         };
         tell(self.alloc, &path, left, log);
-        true
+        Ok(left.has_records.then_some(path))
     }
 
     // Whether the file at this path, of this number, is a log of batches that ends between two
@@ -129,6 +136,22 @@ impl<E: Env, C: UserCmp + Copy + Drop> OpenStore<E, C> {
             _ => false,
         }
     }
+}
+
+// The greatest number of a store's file among these names, or 0.
+fn greatest_number(names: &[String]) -> FileNum
+    ensures most { (name : List ℕ) → Contains (map string_bytes names.now) name
+        → (n : ℕ) (kind : FileType) → IsFileName name n kind → n ≤ result }
+    ensures is_one { (result ≡ 0) ⊎ ((name : List ℕ) × (kind : FileType)
+        × Contains (map string_bytes names.now) name × IsFileName name result kind) }
+{
+    let mut greatest = 0;
+    for name in names {
+        if let Some((number, _)) = file_name_parts(name) {
+            greatest = number.max(greatest);
+        }
+    }
+    greatest
 }
 
 // Reads a log batch by batch. Returns whether it ends between two records.

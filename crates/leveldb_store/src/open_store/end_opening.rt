@@ -19,10 +19,12 @@ use leveldb_version::table_cache::TableCache;
 
 impl<E: Env, C: UserCmp + Copy + Drop> OpenStore<E, C> {
     /// Ends an opening. It looks for damage in the logs and manifests that were left aside: where
-    /// there is some, no file is deleted while the store is open. Then it does the compaction for
-    /// which the score of a level asks, if one asks for it, and deletes what is obsolete. Nothing
-    /// is read at a number below the last one yet, so entries that are shadowed there may go. What
-    /// fails of that is a line for `log`; an Err is that of a compaction which broke the store.
+    /// there is some, no file that is there now is deleted while the store is open. Then it does
+    /// the compaction for which the score of a level asks, if one asks for it, and deletes what is
+    /// obsolete. Nothing is read at a number below the last one yet, so entries that are shadowed
+    /// there may go. Last, it sets the damaged files aside, so that no later opening finds them.
+    /// What fails of that is a line for `log`; an Err is that of a compaction which broke the
+    /// store.
     pub fn end_opening<FP: FilterPolicy + Copy + Drop>(
         &mut self,
         env: &mut E,
@@ -41,7 +43,10 @@ impl<E: Env, C: UserCmp + Copy + Drop> OpenStore<E, C> {
             self.new env.new tables.new }
         ensures log { is_some log.new ≡ is_some log.old }
     {
-        self.keep_damaged_files(env, log);
+        let found = self.keep_damaged_files(env, log);
+        if let Err(e) = &found {
+            log!(*log, self.alloc; "files are kept, since one of them isn't read: {e}");
+        }
         let smallest = self.last_sequence();
         let compacted = self.compact_if_asked(env, options, tables, smallest, log);
         if let Err(e) = &compacted {
@@ -52,6 +57,11 @@ impl<E: Env, C: UserCmp + Copy + Drop> OpenStore<E, C> {
         }
         // What fails of that is a line for `log`.
         let _ = self.tidy_up(env, tables, log);
+        let damaged = found.unwrap_or(Vec::new(self.alloc));
+        let moved = self.set_aside(env, &damaged);
+        if let Err(e) = &moved {
+            log!(*log, self.alloc; "a damaged file isn't set aside: {e}");
+        }
         Ok(())
     }
 }

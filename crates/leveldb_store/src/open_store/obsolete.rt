@@ -6,13 +6,14 @@ ghost use Rattle.leveldb_env.specs.Env.{ListsChildren};
 ghost use Rattle.leveldb_version_set.specs.Sets.VersionSetValue.{numbers_in_order};
 ghost use Rattle.leveldb_version_set.specs.Engines.Writing.{IsObsolete};
 ghost use Rattle.leveldb_files.specs.Stores.Format.{Meaning};
+ghost use Rattle.leveldb_store.specs.Keeping.KeptBytes.{IsKept};
 ghost use Rattle.leveldb_store.specs.Keeping.OpenTables.{ClosesObsolete};
 ghost use Rattle.leveldb_store.specs.Writing.Switch.{IsFirstError, RemovesName, RemovesNames, RemovesObsolete};
 ghost use Rattle.leveldb_store.specs.Keeping.Written.{KeepsWritten};
 
 use super::OpenStore;
 use leveldb_base::cmp::UserCmp;
-use leveldb_base::error::{Result, StatusCode, err};
+use leveldb_base::error::{Result, StatusCode};
 use leveldb_base::names::file_name_parts;
 use leveldb_base::types::{FileNum, FileType};
 use leveldb_env::env::Env;
@@ -22,17 +23,17 @@ use std::collections::BTreeSet;
 
 impl<E: Env, C: UserCmp + Copy + Drop> OpenStore<E, C> {
     /// Deletes the files of the store's folder that are obsolete: logs below the log number,
-    /// manifests below the one in use, tables that aren't live, and temporary files. A table is
-    /// closed before its file is deleted. It goes on after a deletion that fails, and returns the
-    /// first error, or `OutOfMemory` if memory was out for one of them. Where a call on the
-    /// manifest failed it deletes nothing, since the manifest may know of more than the set does.
-    /// Where the store keeps its files it makes no call and returns `Corruption`.
+    /// manifests below the one in use, tables that aren't live, and temporary files; but for those
+    /// that the store keeps. A table is closed before its file is deleted. It goes on after a
+    /// deletion that fails, and returns the first error, or `OutOfMemory` if memory was out for one
+    /// of them. Where a call on the manifest failed it deletes nothing, since the manifest may know
+    /// of more than the set does.
     pub fn remove_obsolete<FP: FilterPolicy + Copy + Drop>(
         &self,
         env: &mut E,
         tables: &mut TableCache<E, C, FP>,
     ) -> Result<()>
-        ensures removes { RemovesObsolete E.Env self.now.set env.old self.now.keeps_files result
+        ensures removes { RemovesObsolete E.Env self.now.set self.now.kept_to env.old result
             env.new }
         ensures keeps { IsTrue E.models_disk → (meaning : Meaning)
             → KeepsWritten (C.cmp self.now.cmp) meaning self.now (E.observed env.old) self.now
@@ -42,19 +43,12 @@ impl<E: Env, C: UserCmp + Copy + Drop> OpenStore<E, C> {
         if self.versions.is_broken() {
             return Ok(());
         }
-        if self.keeps_files {
-            return err(
-                self.alloc,
-                StatusCode::Corruption,
-                "files are kept, since one of them is damaged",
-            );
-        }
         let live = self.versions.live_files()?;
         let names = env.children(self.alloc, &self.name)?;
         self.remove_all(env, tables, &live, &names)
     }
 
-    // Deletes those of the folder's files that are obsolete.
+    // Deletes those of the folder's files that are obsolete and aren't kept.
     fn remove_all<FP: FilterPolicy + Copy + Drop>(
         &self,
         env: &mut E,
@@ -65,8 +59,8 @@ impl<E: Env, C: UserCmp + Copy + Drop> OpenStore<E, C> {
         requires live { live.now.keys ≡ numbers_in_order self.now.set.full.added }
         requires listed { IsTrue E.models_disk → ListsChildren (E.observed env.old).disk.files
             self.now.set.store (map string_bytes names.now) }
-        ensures removes { RemovesNames E.Env self.now.set env.old (map string_bytes names.now)
-            result env.new }
+        ensures removes { RemovesNames E.Env self.now.set self.now.kept_to env.old
+            (map string_bytes names.now) result env.new }
         ensures closes { ClosesObsolete E.Env self.now.set env.old tables.old env.new tables.new }
     {
         let mut first = Ok(());
@@ -76,8 +70,8 @@ impl<E: Env, C: UserCmp + Copy + Drop> OpenStore<E, C> {
         first
     }
 
-    // Deletes the file of this name in the store's folder, if it is obsolete. A table is closed
-    // before that.
+    // Deletes the file of this name in the store's folder, if it is obsolete and isn't kept. A
+    // table is closed before that.
     fn remove_one<FP: FilterPolicy + Copy + Drop>(
         &self,
         env: &mut E,
@@ -86,13 +80,17 @@ impl<E: Env, C: UserCmp + Copy + Drop> OpenStore<E, C> {
         name: &str,
     ) -> Result<()>
         requires { live.now.keys ≡ numbers_in_order self.now.set.full.added }
-        ensures removes { RemovesName E.Env self.now.set env.old name.now result env.new }
+        ensures removes { RemovesName E.Env self.now.set self.now.kept_to env.old name.now result
+            env.new }
         ensures closes { ClosesObsolete E.Env self.now.set env.old tables.old env.new tables.new }
     {
         let Some((number, kind)) = file_name_parts(name) else {
             return Ok(());
         };
         if !self.is_obsolete(live, number, kind) {
+            return Ok(());
+        }
+        if self.is_kept(number) {
             return Ok(());
         }
         let path = format!(in self.alloc; "{}/{name}", self.name)?;
@@ -113,6 +111,16 @@ impl<E: Env, C: UserCmp + Copy + Drop> OpenStore<E, C> {
             FileType::Table => !live.contains(&number),
             FileType::Temp => true,
             FileType::DBLock | FileType::Current | FileType::InfoLog => false,
+        }
+    }
+
+    // Whether a file of this number is kept, obsolete or not.
+    fn is_kept(&self, number: FileNum) -> bool
+        ensures { IsTrue result ↔ IsKept self.now.kept_to number }
+    {
+        match self.kept_to {
+            Some(last) => number <= last,
+            None => false,
         }
     }
 

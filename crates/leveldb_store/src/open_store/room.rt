@@ -60,8 +60,9 @@ impl<E: Env, C: UserCmp + Copy> OpenStore<E, C> {
 }
 
 impl<E: Env, C: UserCmp + Copy + Drop> OpenStore<E, C> {
-    /// Deletes obsolete files, and closes their tables. An Err is what the removal returned, and a
-    /// line for `log`: nothing reads the files that are left, and the next call deletes them.
+    /// Deletes obsolete files that aren't kept, and closes their tables. An Err is what the removal
+    /// returned, and a line for `log`: nothing reads the files that are left, and the next call
+    /// deletes them.
     pub fn tidy_up<FP: FilterPolicy + Copy + Drop>(
         &self,
         env: &mut E,
@@ -69,7 +70,7 @@ impl<E: Env, C: UserCmp + Copy + Drop> OpenStore<E, C> {
         log: &mut Option<Logger>,
     ) -> Result<()>
         requires usable { IsUnbroken self.now }
-        ensures removes { RemovesObsolete E.Env self.now.set env.old self.now.keeps_files result
+        ensures removes { RemovesObsolete E.Env self.now.set self.now.kept_to env.old result
             env.new }
         ensures tidies { TidiesUp E.Env (C.cmp self.now.cmp) self.now env.old env.new }
         ensures closes { ClosesObsolete E.Env self.now.set env.old tables.old env.new tables.new }

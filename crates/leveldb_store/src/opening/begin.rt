@@ -56,7 +56,7 @@ pub(super) fn open_to_write<E: Env, C: UserCmp + Copy + Drop, FP: FilterPolicy +
         log,
         mem,
         imm: None,
-        keeps_files: false,
+        kept_to: None,
     })
 }
 

@@ -37,8 +37,8 @@ pub(super) struct RecoveredSet<E: Env> {
     pub(super) logs: BTreeSet<FileNum>,
 }
 
-// Recovers the set of the manifest that `CURRENT` names. Its live tables are there with their sizes,
-// and the logs that are replayed have their own names. The folder is listed unless it was.
+// Recovers the set of the manifest that `CURRENT` names. Its live tables are there with their
+// sizes, and the logs that are replayed have their own names. The folder is listed unless it was.
 pub(super) fn recover_set<E: Env, C: UserCmp, FP: FilterPolicy>(
     alloc: Global,
     env: &mut E,

@@ -59,7 +59,7 @@ impl<E: Env, C: UserCmp + Copy + Drop> OpenStore<E, C> {
             log,
             mem: logs.rest,
             imm: None,
-            keeps_files: true,
+            kept_to: None,
         })
     }
 }

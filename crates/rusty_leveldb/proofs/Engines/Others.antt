@@ -12,7 +12,7 @@ use Rattle.leveldb_store.specs.Keeping.Written.{IsData}
 use Rattle.leveldb_base.specs.declared.types.FileType.{FileType}
 use Rattle.leveldb_base.specs.declared.types.FileType.TheVariants.{DBLock, InfoLog}
 use Rattle.rusty_leveldb.specs.Machines.State.{Mode, open_mode, closed, Opening, Request, open_store, write, flush, compact_range, close}
-use Rattle.rusty_leveldb.specs.Engines.Frame.{IsOwned, IsLogType, Touches, IsOwn, MayTouch, IsKeptOrMade, Spares, SameBytes}
+use Rattle.rusty_leveldb.specs.Engines.Frame.{IsOwned, IsLogType, Touches, IsStorePath, IsOwn, MayTouch, IsKeptOrMade, Spares, SameBytes}
 
 -- a name that is another
 pub apart : (name path : List ℕ) → path ≢ name → bytes_eq name path ≡ false
@@ -35,9 +35,9 @@ lock_is : (store : List ℕ) → IsFilePath DBLock store (lock_path store)
 lock_is store = (codes "LOCK", 0, (refl, refl), refl)
 
 -- what isn't the store's is not its lock's
-module _ (store path : List ℕ) (foreign : IsOwn store path → ⊥) where
+module _ (store path : List ℕ) (foreign : IsStorePath store path → ⊥) where
   no_lock : path ≢ lock_path store
-  no_lock e = foreign (subst (IsOwn store) (sym e) (DBLock, tt, lock_is store))
+  no_lock e = foreign (subst (IsStorePath store) (sym e) (DBLock, tt, lock_is store))
 
 -- what a request touches is the store's
 data_owned : (kind : FileType) → IsData kind → IsOwned kind
@@ -56,9 +56,21 @@ touched_owned open_mode flush kind touched = log_owned kind touched
 touched_owned open_mode close kind touched = log_owned kind touched
 touched_owned mode request kind touched = absurd touched
 
+touched_own : (store : List ℕ) (mode : Mode) (request : Request) (path : List ℕ) → MayTouch store mode request path → IsOwn store path
+touched_own store closed (open_store opening) path may = may
+touched_own store mode request path may = inl (may.0, touched_owned mode request may.0 may.1, may.2)
+
 pub spares_own : (store : List ℕ) (mode : Mode) (request : Request) (old new : Disk) → Spares store (MayTouch store mode request) old new → Spares store (IsOwn store) old new
 spares_own store mode request old new spares = record {
-  files = λ path foreign. spares.files path (λ may. foreign (may.0, touched_owned mode request may.0 may.1, may.2));
+  files = λ path foreign. spares.files path (λ may. foreign (touched_own store mode request path may));
+  lock_file = spares.lock_file;
+  locks = spares.locks;
+}
+
+-- so is what it makes
+pub spares_made : (store : List ℕ) (old new : Disk) → Spares store (IsStorePath store) old new → Spares store (IsOwn store) old new
+spares_made store old new spares = record {
+  files = λ path foreign. spares.files path (λ made. foreign (inl made));
   lock_file = spares.lock_file;
   locks = spares.locks;
 }
@@ -77,7 +89,7 @@ module _ (store : List ℕ) (old new : Disk) where
   }
 
   -- the lock's file may have been made
-  pub others_made : BeforeOrAfter (created (lock_path store)) old.files new.files → ((path : List ℕ) → path ≢ lock_path store → new.locked path ≡ old.locked path) → Spares store (IsOwn store) old new
+  pub others_made : BeforeOrAfter (created (lock_path store)) old.files new.files → ((path : List ℕ) → path ≢ lock_path store → new.locked path ≡ old.locked path) → Spares store (IsStorePath store) old new
   others_made passes locks = record {
     files = λ path foreign. SameBut-created (lock_path store) old.files new.files passes path (apart (lock_path store) path (no_lock store path foreign));
     lock_file = ⊎_elim (λ same. inl (ap (λ (f : Files). f (lock_path store)) same))

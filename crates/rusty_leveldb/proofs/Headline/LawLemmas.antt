@@ -8,7 +8,7 @@ use Rattle.std.proofs.lemmas.List.{take_all, take-take, take-append-le}
 use Rattle.std.proofs.lemmas.List.Elements.{All-head, All-tail, Contains-append_left, Contains-append_right, Contains-append_cases, Contains-push_cases}
 use Rattle.std.proofs.lemmas.List.Sums.{fold-append}
 use Rattle.leveldb_base.proofs.HistoryLemmas.{in_none, in_rest, in_cases}
-use Rattle.rusty_leveldb.specs.Headline.{KeyChange, Batch, Map, with_change, map_of, Pair, IsListing, AreMoves, UserStore, StoreMode, fresh_store, is_open, is_broken, is_closed, Call, open_store, abandon, close, write, get, walk, WalkMove, get_snapshot, release_snapshot, flush, compact_range, Why, CallOutcome, done, found, walked, snapshot, failed, barred, handed_on, CrashRow, IsShown, broken_with, MayLeaveBroken, at_rest, StoryEvent, returned, crash, AllowedRow, CallRow, IsStory}
+use Rattle.rusty_leveldb.specs.Headline.{KeyChange, Batch, Map, with_change, map_of, Pair, IsListing, UserStore, StoreMode, fresh_store, is_open, is_broken, is_closed, Call, open_store, abandon, close, write, get, walk, WalkMove, get_snapshot, release_snapshot, flush, compact_range, Why, CallOutcome, done, found, walked, snapshot, failed, barred, handed_on, CrashRow, IsShown, broken_with, MayLeaveBroken, at_rest, StoryEvent, returned, crash, AllowedRow, CallRow, IsStory}
 use Rattle.rusty_leveldb.proofs.Headline.OwnLemmas.{number_held}
 use Rattle.rusty_leveldb.specs.HeadlineLaws.{IsReached, BatchesAreReadWhole, BatchIsLeftWhole, LaterEntryWins, DurableIsKept, AbandonedIsWhole, KeepsSnapshot, SnapshotReadsTheSame}
 

@@ -14,6 +14,7 @@ use Rattle.leveldb_version.specs.Tables.TableCache.{IsNewTableCache, MatchesFile
 use Rattle.leveldb_version_set.specs.Sets.VersionSetValue.{VersionSetValue}
 use Rattle.leveldb_version.specs.declared.table_cache.TableCache.{TableCache}
 use Rattle.leveldb_store.proofs.Keeping.KeptFilesLemmas.{keeping, opens_keeping}
+use Rattle.leveldb_store.proofs.Openings.EndedLemmas.{ended_aside, ended_bytes, ended_files, ended_keeps, ended_later, ended_locks, ended_open, ended_time}
 use Rattle.leveldb_store.specs.Tables.BuildTable.{TableChoices}
 use Rattle.leveldb_store.specs.Compactions.Compact.{FailsToMerge, KeepsCompacted}
 use Rattle.leveldb_store.specs.Openings.EndsOpening.{EndsOpening}
@@ -24,6 +25,7 @@ use Rattle.leveldb_store.specs.Openings.OpensStore.{IsForbidden, LacksUsableEdit
 use Rattle.leveldb_store.specs.Reading.Read.{HasOpenTables}
 use Rattle.leveldb_store.specs.Writing.Room.{ChangesLoggerOnly}
 use Rattle.leveldb_store.specs.Keeping.SoundCall.{BytesAreAppended}
+use Rattle.leveldb_store.specs.Keeping.SetAside.{IsAsidePath}
 use Rattle.leveldb_store.specs.Keeping.Written.{IsDataPath}
 use Rattle.leveldb_store.specs.Keeping.WrittenFrom.{KeepsWrittenFrom}
 use Rattle.rusty_leveldb.specs.Engines.Boxes.{EngineOf, InternalOrder}
@@ -38,7 +40,7 @@ use Rattle.rusty_leveldb.proofs.Machines.MachineLemmas.{risk_opening}
 use Rattle.rusty_leveldb.proofs.Openings.OpeningLemmas.{contents, fits_or_not, is_sound, lock_spares, opened_found, opened_goes, other_lacks}
 use Rattle.rusty_leveldb.proofs.Engines.ReadsLemmas.{IsNamed}
 use Rattle.rusty_leveldb.proofs.Engines.RowLemmas.{open_row}
-use Rattle.rusty_leveldb.proofs.Openings.UnderLockLemmas.{IsTaken, LooksNoFurther, but, late_spares, never_here}
+use Rattle.rusty_leveldb.proofs.Openings.UnderLockLemmas.{IsTaken, LooksNoFurther, but, late_spares, made_aside, never_here, own_not_aside}
 
 -- ---- the open tables
 
@@ -93,20 +95,20 @@ module _ {E C FP F P : Type 0} {B : Boxed} {keys : InternalOrder C} {key_filters
 
   -- the store as it was opened, which keeps its files or not
   abbrev value : OpenStoreValue C
-  value = keeping first engine.store.keeps_files
+  value = keeping first engine.store.kept_to
 
   opens : OpensStore env store asked.format asked.create_if_missing asked.error_if_exists taken limit
       (Ok value) opened
-  opens = opens_keeping first engine.store.keeps_files env store asked.format
+  opens = opens_keeping first engine.store.kept_to env store asked.format
       asked.create_if_missing asked.error_if_exists taken limit opened opens_first
 
-  -- what the end of the opening keeps
+  -- what the end of the opening keeps, before damaged files are set aside
   abbrev kept : KeepsCompacted keys env (table_options (formats_of choices options) options)
       value opened cache value.set.last_sequence
       (FailsToMerge keys env (table_options (formats_of choices options) options)
-      value opened cache (choices options)) ends.compacted
-      engine.store to engine.tables
-  kept = ends.compacts.keeps
+      value opened cache (choices options)) ends.first.compacted
+      engine.store ends.at engine.tables
+  kept = ends.first.compacts.keeps
 
   same_cmp : engine.store.cmp ≡ options.cmp
   same_cmp = kept.rest.cmp ∙ cmp
@@ -134,17 +136,17 @@ module _ {E C FP F P : Type 0} {B : Boxed} {keys : InternalOrder C} {key_filters
 
   tables : IsTrue env.models_disk → HasOwnTables keys env formats engine (env.observed to).disk.files
   tables modelled = subst (λ (by : TableOptions C FP). AreOpenTablesOf keys env by engine.store.set
-      (env.observed to).disk.files engine.tables) (sym by_options) (kept.still_open (has_open modelled))
+      (env.observed to).disk.files engine.tables) (sym by_options) (ended_open ends (has_open modelled))
 
   later : env.failures from ≤ env.failures to
-  later = omega (arith, counted, opens_count, kept.cause.later)
+  later = omega (arith, counted, opens_count, ended_later ends)
 
   may : IsTrue env.models_disk → LooksNoFurther store asked here → ⊥
   may modelled looks = (opens.stays modelled looks).0
 
   same_locks : IsTrue env.models_disk
       → (env.observed to).disk.locked ≡ (env.observed taken).disk.locked
-  same_locks modelled = kept.rest.locks modelled ∙ opens.locks modelled
+  same_locks modelled = ended_locks ends modelled ∙ opens.locks modelled
 
   lock_held : IsTrue env.models_disk → IsTrue ((env.observed to).disk.locked (lock_path store))
   lock_held modelled = ap (λ (l : List ℕ → Bool). l (lock_path store)) (same_locks modelled)
@@ -154,8 +156,9 @@ module _ {E C FP F P : Type 0} {B : Boxed} {keys : InternalOrder C} {key_filters
       → Spares store (IsOwn store) (env.observed from).disk (env.observed to).disk
   spares modelled = late_spares store (env.observed from) (env.observed taken) (env.observed to)
       (took modelled)
-      (λ path foreign. kept.rest.files modelled path
+      (λ path foreign no_aside. ended_files ends modelled path
       (λ theirs. foreign (inl (subst (λ (s : List ℕ). IsDataPath s path) opens.path theirs)))
+      (λ aside. no_aside (subst (λ (s : List ℕ). IsAsidePath s path) opens.path aside))
       ∙ (opens.others modelled).has path foreign)
       (λ path differs. ap (λ (l : List ℕ → Bool). l path) (same_locks modelled))
 
@@ -178,7 +181,7 @@ module _ {E C FP F P : Type 0} {B : Boxed} {keys : InternalOrder C} {key_filters
         was.disk_is.bytes
 
     bytes_end : AppendedAreBytes (env.observed to).disk.files
-    bytes_end = kept.sound.bytes modelled (bytes_go modelled bytes_taken)
+    bytes_end = ended_bytes ends modelled (bytes_go modelled bytes_taken)
 
     -- the format of the options is the one of the opening
     is_format : formats options ≡ opening.format
@@ -188,7 +191,7 @@ module _ {E C FP F P : Type 0} {B : Boxed} {keys : InternalOrder C} {key_filters
         (env.observed opened) engine.store (env.observed to)
     ended = subst (λ (f : Format). KeepsWrittenFrom f.order meaning value.set.last_sequence value
         (env.observed opened) engine.store (env.observed to)) is_format
-        (kept.keeps (has_open modelled) meaning
+        (ended_keeps ends (has_open modelled) meaning
         (subst (λ (f : Format). Agrees f meaning) (sym is_format) agrees))
 
     early_run : Run (IsSpared store meaning old (risk_opening opening old)) (env.observed from)
@@ -216,7 +219,7 @@ module _ {E C FP F P : Type 0} {B : Boxed} {keys : InternalOrder C} {key_filters
         opened_goes env formats store meaning opening agrees from old was fits (env.observed taken)
         same_but bytes_taken value (env.observed opened) opens.path
         (opens_so.keeps modelled meaning agrees found sound)
-        (opens_so.opens modelled meaning agrees found sound) engine to ends.ok kept.rest.store
+        (opens_so.opens modelled meaning agrees found sound) engine to ends.first.ok kept.rest.store
         kept.rest.last value.set.last_sequence ended (took modelled).was_free allowed
         mode unheld lock (format ∙ sym same_format) (tables modelled) (is.fits.1 (well.0, well.1))
         (subst IsTrue (sym (ap (λ (o : Opening). o.compresses) is.same)) well.2) later early_run
@@ -238,7 +241,7 @@ module _ {E C FP F P : Type 0} {B : Boxed} {keys : InternalOrder C} {key_filters
         opened_found env formats store meaning opening agrees from old was fits (env.observed taken)
         same_but bytes_taken value (env.observed opened) opens.path
         (opens_so.keeps modelled meaning agrees found sound)
-        (opens_so.opens modelled meaning agrees found sound) engine to ends.ok kept.rest.store
+        (opens_so.opens modelled meaning agrees found sound) engine to ends.first.ok kept.rest.store
         kept.rest.last value.set.last_sequence ended (took modelled).was_free allowed
         mode unheld lock (format ∙ sym same_format) (tables modelled) (is.fits.1 (well.0, well.1))
         (subst IsTrue (sym (ap (λ (o : Opening). o.compresses) is.same)) well.2)
@@ -305,11 +308,16 @@ module _ {E C FP F P : Type 0} {B : Boxed} {keys : InternalOrder C} {key_filters
       lock_held modelled,
     );
     others = spares;
+    aside = λ modelled path is some.
+        let kept = made_aside store (env.observed from).disk.files here (took modelled).run.has path is some in
+        let opened_is = (opens.others modelled).has path (own_not_aside store path is) ∙ kept in
+        ended_aside ends modelled path (subst (λ (s : List ℕ). IsAsidePath s path) (sym opens.path) is)
+        (λ none. some (sym opened_is ∙ none)) ∙ opened_is;
     step = stepped;
     time = λ modelled.
         let first = (took modelled).run.time.later in
         let second = (opens.others modelled).time.later in
-        let third = kept.sound.time modelled in omega (arith, first, second, third);
+        let third = ended_time ends modelled in omega (arith, first, second, third);
     misnamed = λ no. absurd (no well);
     never_opens = λ modelled never.
         absurd (may modelled (never_here env store asked from taken took modelled never));

@@ -41,7 +41,7 @@ use Rattle.rusty_leveldb.proofs.Machines.MachineLemmas.{risk_opening}
 use Rattle.rusty_leveldb.proofs.Openings.OpeningLemmas.{contents, fits_or_not, is_sound, lock_spares, opening_holds, opening_run, other_lacks, taken_holds}
 use Rattle.rusty_leveldb.proofs.Engines.ReadsLemmas.{IsNamed}
 use Rattle.rusty_leveldb.proofs.Engines.RowLemmas.{unopened_row}
-use Rattle.rusty_leveldb.proofs.Openings.UnderLockLemmas.{IsTaken, LooksNoFurther, but, excused_late, late_spares, never_here, same_current, set_other, set_same, unlock_failed, unlock_fails}
+use Rattle.rusty_leveldb.proofs.Openings.UnderLockLemmas.{IsTaken, LooksNoFurther, but, excused_late, late_spares, made_aside, never_here, own_not_aside, same_current, set_other, set_same, unlock_failed, unlock_fails}
 use Rattle.rusty_leveldb.proofs.Openings.UnopenedLemmas.{comparator_there, found_in, in_order, lacking, not_kept_causes, other, unwanted}
 use Rattle.rusty_leveldb.proofs.Openings.UnopenedStepLemmas.{settles, unopened_goes}
 
@@ -170,7 +170,7 @@ module _ {E C FP F P : Type 0} {B : Boxed} {keys : InternalOrder C} {key_filters
     spares : Spares store (IsOwn store) (env.observed from).disk (env.observed to).disk
     spares = late_spares store (env.observed from) (env.observed taken) (env.observed to)
         (took modelled)
-        (λ path foreign. ap (λ (f : Files). f path) end_files
+        (λ path foreign no_aside. ap (λ (f : Files). f path) end_files
         ∙ opens.others modelled path foreign) other_locks
 
     -- where it looks no further, all files stay
@@ -404,6 +404,10 @@ module _ {E C FP F P : Type 0} {B : Boxed} {keys : InternalOrder C} {key_filters
     ends = tt;
     held = tt;
     others = spares;
+    aside = λ modelled path is some.
+        ap (λ (f : Files). f path) (end_files modelled)
+        ∙ opens.others modelled path (own_not_aside store path is)
+        ∙ made_aside store (env.observed from).disk.files here (took modelled).run.has path is some;
     step = stepped;
     time = λ modelled.
         let first = (took modelled).run.time.later in

@@ -17,13 +17,14 @@ use Rattle.leveldb_store.proofs.Keeping.KeptFilesLemmas.{keeping, opens_keeping}
 use Rattle.leveldb_store.proofs.Openings.OpeningFrontLemmas.{keeps_found_then}
 use Rattle.leveldb_store.proofs.Keeping.SoundLemmas.{failed_once}
 use Rattle.leveldb_store.specs.Tables.BuildTable.{TableChoices}
+use Rattle.leveldb_store.specs.Compactions.Compact.{CompactsTables}
 use Rattle.leveldb_store.specs.Openings.EndsOpening.{EndsOpening}
-use Rattle.leveldb_store.specs.Keeping.KeptBytes.{LosesNoBytesMeanwhile, LosesNothing, TableNumbersAreBelow}
+use Rattle.leveldb_store.specs.Keeping.KeptBytes.{LosesNoBytesMeanwhile, LosesNothing, NewTablesLoseNothing, TableNumbersAreBelow}
 use Rattle.leveldb_store.specs.Keeping.OpenStore.{OpenStoreValue}
 use Rattle.leveldb_store.specs.Keeping.OpenTables.{AreOpenTablesOf}
 use Rattle.leveldb_store.specs.Openings.OpensStore.{FailsToOpen, IsForbidden, IsSound, KeepsFound, LacksCurrent, LacksUsableEdits, OpensStore, SameBesideOwn}
 use Rattle.leveldb_store.specs.Writing.Room.{FailsFor, HasFailed}
-use Rattle.leveldb_store.specs.Keeping.SoundCall.{BytesAreAppended, TimeGoesOn}
+use Rattle.leveldb_store.specs.Keeping.SoundCall.{BreaksForCause, BytesAreAppended, TimeGoesOn}
 use Rattle.leveldb_store.specs.Writing.Switch.{IsManifestLost}
 use Rattle.leveldb_store.specs.Keeping.Written.{IsDataPath}
 use Rattle.leveldb_store.specs.Keeping.WrittenFrom.{KeepsWrittenFrom}
@@ -92,10 +93,16 @@ module _ {E F C FP D P : Type 0} (order : CmpGhosts (InternalKeyCmp C)) (env : G
     (e : Status) (new : OpenStoreValue C) (now : TableCache E C FP F)
     (ends : EndsOpening order env by first opened cache choices (Err e) new to now) where
   abbrev value : OpenStoreValue C
-  value = keeping first new.keeps_files
+  value = keeping first new.kept_to
+
+  -- nothing was set aside
+  compacts : CompactsTables order env by value opened cache choices first.set.last_sequence
+      ends.first.compacted new to now
+  compacts = subst (λ (s : E). CompactsTables order env by value opened cache choices
+      first.set.last_sequence ends.first.compacted new s now) (sym ends.unmoved) ends.first.compacts
 
   opens : OpensStore env store format create_if_missing error_if_exists taken limit (Ok value) opened
-  opens = opens_keeping first new.keeps_files env store format create_if_missing error_if_exists
+  opens = opens_keeping first new.kept_to env store format create_if_missing error_if_exists
       taken limit opened opens_first
 
   keeps_in : IsTrue env.models_disk → (meaning : Meaning) → Agrees format meaning
@@ -103,7 +110,7 @@ module _ {E F C FP D P : Type 0} (order : CmpGhosts (InternalKeyCmp C)) (env : G
       (env.observed to)
   keeps_in modelled meaning agrees = subst (λ (f : Format). KeepsWrittenFrom f.order meaning
       first.set.last_sequence value (env.observed opened) new (env.observed to)) same
-      (ends.compacts.keeps.keeps (record { modelled = modelled; are = none_open modelled }) meaning
+      (compacts.keeps.keeps (record { modelled = modelled; are = none_open modelled }) meaning
       (subst (λ (f : Format). Agrees f meaning) (sym same) agrees))
 
   found_kept : IsTrue env.models_disk → (meaning : Meaning) → Agrees format meaning
@@ -119,11 +126,15 @@ module _ {E F C FP D P : Type 0} (order : CmpGhosts (InternalKeyCmp C)) (env : G
       ((keeps_in modelled meaning agrees allowed is.written).moments bound
       (subst (λ n. n ≤ bound) (sym is.last) reached))
 
+  kept : NewTablesLoseNothing env first.set.store opened to first.set.next_file
+  kept = subst (λ (s : E). NewTablesLoseNothing env first.set.store opened s first.set.next_file)
+      (sym ends.unmoved) ends.first.kept
+
   -- the compaction loses no byte, whose tables have new numbers
   nothing_lost : LosesNothing env store taken to
   nothing_lost modelled there = meanwhile_then env store (opens_first.kept modelled there)
       (subst (λ (s : List ℕ). LosesNoBytesMeanwhile env s opened to) opens_first.path
-      (ends.kept modelled (subst (λ (s : List ℕ).
+      (kept modelled (subst (λ (s : List ℕ).
       TableNumbersAreBelow s (env.observed opened).disk.files first.set.next_file)
       (sym opens_first.path) (opens_first.numbers modelled))))
 
@@ -135,19 +146,23 @@ module _ {E F C FP D P : Type 0} (order : CmpGhosts (InternalKeyCmp C)) (env : G
         (opens.keeps modelled meaning agrees contents sound)
         (found_kept modelled meaning agrees contents sound);
     stays = λ modelled looks. absurd (opens.stays modelled looks).0;
-    others = λ modelled path foreign. ends.compacts.keeps.rest.files modelled path
+    others = λ modelled path foreign. compacts.keeps.rest.files modelled path
         (λ theirs. foreign (inl (subst (λ (s : List ℕ). IsDataPath s path) opens.path theirs)))
         ∙ (opens.others modelled).has path foreign;
     kept = nothing_lost;
     time = λ modelled.
         let before = (opens.others modelled).time.later in
-        let after = ends.compacts.keeps.sound.time modelled in omega (arith, before, after);
-    locks = λ modelled. ends.compacts.keeps.rest.locks modelled ∙ opens.locks modelled;
+        let after = compacts.keeps.sound.time modelled in omega (arith, before, after);
+    locks = λ modelled. compacts.keeps.rest.locks modelled ∙ opens.locks modelled;
   }
 
   -- what was appended are bytes
   pub broken_bytes : BytesAreAppended env taken opened → BytesAreAppended env taken to
-  broken_bytes go modelled bytes = ends.compacts.keeps.sound.bytes modelled (go modelled bytes)
+  broken_bytes go modelled bytes = compacts.keeps.sound.bytes modelled (go modelled bytes)
+
+  breaks : BreaksForCause {T = Unit {0}} env first opened (Err e) new to
+  breaks = subst (λ (s : E). BreaksForCause {T = Unit {0}} env first opened (Err e) new s)
+      (sym ends.unmoved) ends.first.breaks
 
   -- A manifest that is lost was there, where the disk is modelled.
   lost_fails : {OtherC OtherP : Type 0} {other_keys : CmpGhosts OtherC}
@@ -173,9 +188,9 @@ module _ {E F C FP D P : Type 0} (order : CmpGhosts (InternalKeyCmp C)) (env : G
       (FailsToOpen env store asked create_if_missing error_if_exists taken to)
       (env.failures taken) (env.failures to) (Err e)
   broken_cause asked = record {
-    later = omega (arith, opens_count, ends.compacts.keeps.cause.later);
-    cause = ⊎_elim (λ usable. absurd (ends.broken.0 usable))
+    later = omega (arith, opens_count, compacts.keeps.cause.later);
+    cause = ⊎_elim (λ usable. absurd (ends.first.broken.0 usable))
         (λ other. ⊎_elim (λ lost. inl (lost_fails asked lost))
         (λ counted. inr (subst (λ n. HasFailed n (env.failures to)) opens_count counted)) other)
-        (ends.breaks opens_first.unbroken);
+        (breaks opens_first.unbroken);
   }

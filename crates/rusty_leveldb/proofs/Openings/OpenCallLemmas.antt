@@ -26,7 +26,8 @@ use Rattle.rusty_leveldb.specs.Engines.Serves.{Represents, refusal_of, setting_b
 use Rattle.rusty_leveldb.specs.Machines.State.{Opening, State, open_store, refused}
 use Rattle.rusty_leveldb.specs.Openings.Unopened.{MakesLockAlone, OpenExcused}
 use Rattle.rusty_leveldb.proofs.Openings.OpeningLemmas.{lock_spares, taken_holds}
-use Rattle.rusty_leveldb.proofs.Engines.Others.{others_made}
+use Rattle.rusty_leveldb.proofs.Engines.Others.{others_made, spares_made}
+use Rattle.rusty_leveldb.proofs.Openings.UnderLockLemmas.{made_aside}
 use Rattle.rusty_leveldb.proofs.Engines.RowLemmas.{unopened_row}
 use Rattle.rusty_leveldb.proofs.Openings.UnopenedLemmas.{open_cause}
 use Rattle.rusty_leveldb.proofs.Openings.UnopenedStepLemmas.{unopened_goes}
@@ -101,8 +102,9 @@ module _ {E C FP F P : Type 0} {B : Boxed} {keys : InternalOrder C} {key_filters
 
   near_others : IsNear store (env.observed from) (env.observed to)
       → Spares store (IsOwn store) (env.observed from).disk (env.observed to).disk
-  near_others near = others_made store (env.observed from).disk (env.observed to).disk near.run.has
-      (λ path apart. ap (λ (l : List ℕ → Bool). l path) near.locks)
+  near_others near = spares_made store (env.observed from).disk (env.observed to).disk
+      (others_made store (env.observed from).disk (env.observed to).disk near.run.has
+      (λ path apart. ap (λ (l : List ℕ → Bool). l path) near.locks))
 
   -- a cause, where the device has no part in it or has
   cause_of : (opening : Opening) → IsOpening store asked opening → (meaning : Meaning)
@@ -156,6 +158,8 @@ module _ {E C FP F P : Type 0} {B : Boxed} {keys : InternalOrder C} {key_filters
     ends = tt;
     held = tt;
     others = λ modelled. near_others (near modelled);
+    aside = λ modelled. made_aside store (env.observed from).disk.files
+        (env.observed to).disk.files (near modelled).run.has;
     step = stepped near later why;
     time = λ modelled. (near modelled).run.time.later;
     misnamed = λ no. (misnamed no, tt);

@@ -12,17 +12,19 @@ use Rattle.leveldb_env.specs.declared.env.Env.{Ghosts}
 use Rattle.leveldb_env.specs.declared.filter.FilterPolicy.{Ghosts as FilterGhosts}
 use Rattle.leveldb_env.proofs.EnvLemmas.{Run-call, SameBut-created, at_same, bytes_eq-apart, bytes_eq-same}
 use Rattle.leveldb_files.specs.Stores.Paths.{current_path, lock_path}
+use Rattle.leveldb_store.proofs.Keeping.SetAsideLemmas.{aside_is_none}
 use Rattle.leveldb_store.proofs.Keeping.SoundLemmas.{failed_once}
 use Rattle.leveldb_store.proofs.Keeping.TableKeepsLemmas.{types_apart}
 use Rattle.leveldb_store.specs.Tables.BuildTable.{TableChoices}
-use Rattle.leveldb_store.specs.Openings.OpensStore.{FailsToOpen, IsForbidden, IsForbiddenAs, IsOwnPath, LacksCurrent, LacksUsableEdits, SameBesideOwn, WhyNotOpenable}
+use Rattle.leveldb_store.specs.Openings.OpensStore.{FailsToOpen, IsForbidden, IsForbiddenAs, IsOwnPath, LacksCurrent, LacksUsableEdits, WhyNotOpenable}
 use Rattle.leveldb_store.specs.Writing.Room.{HasFailed}
+use Rattle.leveldb_store.specs.Keeping.SetAside.{IsAsidePath}
 use Rattle.leveldb_store.specs.Keeping.Written.{IsData}
-use Rattle.rusty_leveldb.specs.Engines.Frame.{IsOwn, IsOwned, Spares}
+use Rattle.rusty_leveldb.specs.Engines.Frame.{IsOwn, IsOwned, KeepsAside, Spares}
 use Rattle.rusty_leveldb.specs.Machines.State.{Opening}
 use Rattle.rusty_leveldb.specs.Openings.Unopened.{FailsToUnlock, NeverOpens, OpenExcused}
 use Rattle.rusty_leveldb.proofs.Openings.LockLemmas.{lock_current, lock_edits, lock_huge, lock_lacks, lock_log, lock_numbers, lock_reads, lock_shared}
-use Rattle.rusty_leveldb.proofs.Engines.Others.{others_made, others_then}
+use Rattle.rusty_leveldb.proofs.Engines.Others.{others_made, others_then, spares_made}
 use Rattle.rusty_leveldb.proofs.Engines.SyncLemmas.{lock_is_no_data}
 
 -- ---- locks
@@ -82,9 +84,10 @@ data_is_own InfoLog never = absurd never
 data_is_own kind is = tt
 
 path_is_own : (store path : List ℕ) → IsOwnPath store path → IsOwn store path
-path_is_own store path (inl data_path) = (data_path.0, data_is_own data_path.0 data_path.1, data_path.2)
+path_is_own store path (inl data_path) =
+    inl (data_path.0, data_is_own data_path.0 data_path.1, data_path.2)
 path_is_own store path (inr is) =
-    (Current, tt, (file_name Current 0, 0, (refl, refl), is))
+    inl (Current, tt, (file_name Current 0, 0, (refl, refl), is))
 
 lock_not_own : (store : List ℕ) → IsOwnPath store (lock_path store) → ⊥
 lock_not_own store (inl data_path) = lock_is_no_data store data_path.0 data_path.1 data_path.2
@@ -96,16 +99,44 @@ lock_not_own store (inr is) =
     (bytes_eq-same (lock_path store)) in
     let never : true ≡ false = sym same_path ∙ apart in cc
 
+lock_not_aside : (store : List ℕ) → IsAsidePath store (lock_path store) → ⊥
+lock_not_aside store is = aside_is_none store (lock_path store) is (file_name DBLock 0) 0 DBLock
+    (refl, refl) refl
+
+lock_apart : (store path : List ℕ) → IsAsidePath store path → bytes_eq (lock_path store) path ≡ false
+lock_apart store path is = bytes_eq-apart (lock_path store) path
+    (λ same. lock_not_aside store (subst (IsAsidePath store) (sym same) is))
+
+-- what was set aside isn't the lock's file
+pub made_aside : (store : List ℕ) (old new : Files) → BeforeOrAfter (created (lock_path store)) old new
+    → KeepsAside store old new
+made_aside store old new passes path is some =
+    SameBut-created (lock_path store) old new passes path (lock_apart store path is)
+
+-- nor is it any that the store makes
+pub own_not_aside : (store path : List ℕ) → IsAsidePath store path → IsOwnPath store path → ⊥
+own_not_aside store path is (inl (kind, holds, (name, n, named, there))) =
+    aside_is_none store path is name n kind named there
+own_not_aside store path is (inr there) =
+    aside_is_none store path is (file_name Current 0) 0 Current (refl, refl) there
+
+-- files that are the same but at paths of the store, and where it sets files aside
+abbrev pub SameElsewhere : List ℕ → Files → Files → Type 0
+SameElsewhere store old new = (path : List ℕ) → (IsOwnPath store path → ⊥)
+    → (IsAsidePath store path → ⊥) → new path ≡ old path
+
 -- an opening under the lock spares what isn't the store's, whatever becomes of the lock
 pub late_spares : (store : List ℕ) (from taken to : Observed) → IsTaken store from taken
-    → SameBesideOwn store taken.disk.files to.disk.files
+    → SameElsewhere store taken.disk.files to.disk.files
     → ((path : List ℕ) → path ≢ lock_path store → to.disk.locked path ≡ taken.disk.locked path)
     → Spares store (IsOwn store) from.disk to.disk
 late_spares store from taken to took others locks = others_then store from.disk taken.disk to.disk
-    (others_made store from.disk taken.disk took.run.has took.others)
+    (spares_made store from.disk taken.disk
+    (others_made store from.disk taken.disk took.run.has took.others))
     (record {
-      files = λ path foreign. others path (λ own. foreign (path_is_own store path own));
-      lock_file = inl (others (lock_path store) (lock_not_own store));
+      files = λ path foreign. others path (λ own. foreign (path_is_own store path own))
+          (λ aside. foreign (inr aside));
+      lock_file = inl (others (lock_path store) (lock_not_own store) (lock_not_aside store));
       locks = locks;
     })
 

@@ -31,7 +31,7 @@ use Rattle.leveldb_store.specs.Writing.Room.{HasFailed}
 use Rattle.leveldb_repair.specs.FoundWalkTable.{FailsBetweenOr}
 use Rattle.leveldb_repair.specs.RepairStore.{HasClash, HasLargeBatchInLog, HasTooFewNumbers, HasUndecodedTable, HasUnlikeDeletions, IsMomentOfRepair, IsOldOrPartlyRepaired, HoldsAllFound, RepairsStore, WhyNotBegun, WhyNotEnded}
 use Rattle.rusty_leveldb.specs.Engines.Engine.{IsStoreName}
-use Rattle.rusty_leveldb.specs.Engines.Frame.{IsKeptOrMade, IsOwn, IsOwned, Spares}
+use Rattle.rusty_leveldb.specs.Engines.Frame.{IsKeptOrMade, IsStorePath, IsOwned, Spares}
 use Rattle.rusty_leveldb.specs.Repairs.Repair.{AreFoundIn, IsLockedOrPartlyRepaired, IsMomentOfLockedRepair, IsAllRepaired, IsSparedOrRepaired, LeavesOthers, RepairExcused, RepairRefused, Repairs, repaired_state}
 use Rattle.rusty_leveldb.specs.Engines.Serves.{StandsFor}
 use Rattle.rusty_leveldb.specs.Machines.State.{Opening, State, closed}
@@ -63,11 +63,11 @@ agrees_by : (format : Format) → Agrees format (meaning_by format)
 agrees_by format = record { order = refl; codings = λ id coding is. is; filters = refl }
 
 -- a path that isn't the store's is none that it makes
-away : (store path : List ℕ) → (IsOwn store path → ⊥) → (kind : FileType) (n : ℕ) → IsOwned kind
+away : (store path : List ℕ) → (IsStorePath store path → ⊥) → (kind : FileType) (n : ℕ) → IsOwned kind
     → MayHaveNumber kind n → bytes_eq (in_folder store (file_name kind n)) path ≡ false
 away store path foreign kind n owned may =
     bytes_eq-apart (in_folder store (file_name kind n)) path
-    (λ e. foreign (subst (IsOwn store) e
+    (λ e. foreign (subst (IsStorePath store) e
     (kind, owned, (file_name kind n, n, made_name kind n may, refl))))
 
 module _ (store : List ℕ) (old now : Files) where
@@ -98,7 +98,7 @@ module _ (store : List ℕ) (old now : Files) where
 
     -- a path that is none of the store's
     pub at_spares : IsMomentOfLockedRepair store format meaning old now
-        → (path : List ℕ) → (IsOwn store path → ⊥) → now path ≡ old path
+        → (path : List ℕ) → (IsStorePath store path → ⊥) → now path ≡ old path
     at_spares (inl passes) path foreign = SameBut-created (lock_path store) old now passes path
         (away store path foreign DBLock 0 tt refl)
     at_spares (inr it) path foreign =
@@ -357,7 +357,7 @@ module _ {E F C FP : Type 0} {order : CmpGhosts C} {filters : FilterGhosts FP} (
         (env.observed to)
     any_run = whole_run any_meaning (agrees_by asked.format)
 
-    spares : Spares store (IsOwn store) (env.observed from).disk (env.observed to).disk
+    spares : Spares store (IsStorePath store) (env.observed from).disk (env.observed to).disk
     spares = record {
       files = at_spares store old end asked.format any_meaning any_run.has;
       lock_file = at_lock_file store old end asked.format any_meaning any_run.has;

@@ -66,7 +66,7 @@ module _ {E F C FP : Type 0} (order : CmpGhosts (InternalKeyCmp C)) (env : Ghost
         store = refl;
         cmp = refl;
         last = refl;
-        keeps_files = refl;
+        kept_to = refl;
         files = λ modelled path spared. refl;
         numbers = omega arith;
         tables = λ modelled. given_same old.set (env.observed from).disk.files

@@ -35,7 +35,7 @@ use Rattle.rusty_leveldb.specs.Machines.Causes.{IsLongBatch}
 use Rattle.rusty_leveldb.specs.Machines.State.{Opening, Request, Snapshot, State, open_mode, open_store, write, get, get_snapshot, release_snapshot, flush, compact_range, close, abandon}
 use Rattle.rusty_leveldb.specs.Engines.Serves.{AreReadAs, done_or, found_or, given_engine, snapshot_of, snapshot_or}
 use Rattle.rusty_leveldb.specs.Engines.Engine.{IsClosed, IsBroken, IsClosedOrBroken, IsEngineSequence, RefusedByMode, AnswersAs, Answers, WriteExcused, SyncExcused, CloseExcused, CompactExcused, GetExcused, GetFails, SnapshotExcused, ReleaseExcused, WalkExcused, IsStoreName, IsOpening, HasOwnLock, WriteMovesLookedAt, formats_of, holds_lock, engine_options, has_compaction_due, tables_by}
-use Rattle.rusty_leveldb.specs.Engines.Frame.{IsOwn, IsSyncing, MayTouchOrLog, SameBytes, Spares}
+use Rattle.rusty_leveldb.specs.Engines.Frame.{IsOwn, IsSyncing, KeepsAside, MayTouchOrLog, SameBytes, Spares}
 use Rattle.rusty_leveldb.specs.Machines.Machine.{AllDurable, Closes, Gives, Keeps, Opens, Releases, Writes, risk_of}
 use Rattle.rusty_leveldb.specs.Engines.Room.{EngineMakesRoom, LogsIfDue, LogsRoom, KeepsOrCompacts, entries_added}
 use Rattle.rusty_leveldb.specs.Engines.Rows.{FindsValue, FromEachState, FromStatesOf, IsAbandoned, NotClosed, NotCompacted, NotFlushed, NotOpened, NotUnlocked, NotWritten, RepresentsAt, Row, StaysAsItWas, WalksView}
@@ -496,6 +496,9 @@ module _ {E C FP F P : Type 0} {B : Boxed} {keys : InternalOrder C} {key_filters
     -- what isn't the store's stays as it is
     pub others : IsTrue env.models_disk
         → Spares name (IsOwn name) (env.observed from).disk (env.observed to).disk
+    -- and so does what was set aside before
+    pub aside : IsTrue env.models_disk
+        → KeepsAside name (env.observed from).disk.files (env.observed to).disk.files
     -- where the disk is observed, the call is a step of the machine, if the options say of names
     -- and ids what they mean
     pub step : (opening : Opening) → IsOpening name asked opening

@@ -1,10 +1,11 @@
 -- What a call leaves alone: the files that a request may not touch, and all locks but the store's.
-use Rattle.std.specs.Prelude.{◌≡◌, ◌≢◌, ◌⊎◌, ℕ, List, Option}
+use Rattle.std.specs.Prelude.{◌≡◌, ◌≢◌, ◌⊎◌, ℕ, List, None, Option}
 use Rattle.std.specs.Option.{option_map}
 use Rattle.leveldb_base.specs.declared.types.FileType.{FileType}
 use Rattle.leveldb_base.specs.declared.types.FileType.TheVariants.{Log, InfoLog}
 use Rattle.leveldb_env.specs.Env.{File, Files, Disk, bytes_of, or_empty}
 use Rattle.leveldb_files.specs.Stores.Paths.{IsFilePath, lock_path}
+use Rattle.leveldb_store.specs.Keeping.SetAside.{IsAsidePath}
 use Rattle.leveldb_store.specs.Keeping.Written.{IsData}
 use Rattle.rusty_leveldb.specs.Machines.State.{Mode, open_mode, closed, Request, open_store, write, flush, compact_range, close}
 
@@ -31,11 +32,16 @@ Touches open_mode close kind = IsLogType kind
 Touches mode request kind = ⊥
 
 -- a path of a file that the store makes
+abbrev pub IsStorePath : List ℕ → List ℕ → Type 0
+IsStorePath store path = (kind : FileType) × IsOwned kind × IsFilePath kind store path
+
+-- or one at which an opening sets a damaged one aside
 abbrev pub IsOwn : List ℕ → List ℕ → Type 0
-IsOwn store path = (kind : FileType) × IsOwned kind × IsFilePath kind store path
+IsOwn store path = IsStorePath store path ⊎ IsAsidePath store path
 
 -- a path of a file that the request may make, change or delete
 abbrev pub MayTouch : List ℕ → Mode → Request → List ℕ → Type 0
+MayTouch store closed (open_store opening) path = IsOwn store path
 MayTouch store mode request path =
     (kind : FileType) × Touches mode request kind × IsFilePath kind store path
 
@@ -58,6 +64,11 @@ pub record Spares (store : List ℕ) (May : List ℕ → Type 0) (before after :
   pub lock_file : IsKeptOrMade (before.files (lock_path store)) (after.files (lock_path store))
   -- every other lock stays as it is
   pub locks : (path : List ℕ) → path ≢ lock_path store → after.locked path ≡ before.locked path
+
+-- each file that was set aside stays as it is
+abbrev pub KeepsAside : List ℕ → Files → Files → Type 0
+KeepsAside store before after = (path : List ℕ) → IsAsidePath store path → before path ≢ None
+    → after path ≡ before path
 
 -- a request that adds no bytes: it makes a crash keep those that are there
 abbrev pub IsSyncing : Request → Type 0

@@ -20,7 +20,7 @@ use Rattle.leveldb_store.specs.Writing.Room.{FailsFor, HasFailed}
 use Rattle.leveldb_store.specs.Keeping.SoundCall.{BytesAreAppended}
 use Rattle.leveldb_repair.specs.RepairStore.{HoldsOldOrAllFound, HoldsAllFound, IsPartlyRepaired, WhyNotEnded, WhyNotRepaired}
 use Rattle.rusty_leveldb.specs.Engines.Engine.{IsStoreName}
-use Rattle.rusty_leveldb.specs.Engines.Frame.{IsOwn, Spares}
+use Rattle.rusty_leveldb.specs.Engines.Frame.{IsStorePath, Spares}
 use Rattle.rusty_leveldb.specs.Machines.Machine.{risk_between}
 use Rattle.rusty_leveldb.specs.Engines.Serves.{IsSpared, StandsFor}
 use Rattle.rusty_leveldb.specs.Machines.State.{IsState, Opening, State, closed}
@@ -166,7 +166,7 @@ module _ {E F : Type 0} (env : Ghosts E F) (store : List ℕ) (asked : Opening) 
           (env.observed to)
       -- what isn't the store's stays as it is, other locks too
       pub others : IsTrue env.models_disk
-          → Spares store (IsOwn store) (env.observed from).disk (env.observed to).disk
+          → Spares store (IsStorePath store) (env.observed from).disk (env.observed to).disk
       -- what is appended to files are bytes, if all that was appended before are
       pub bytes : BytesAreAppended env from to
       -- Ok: the lock was free, and it is

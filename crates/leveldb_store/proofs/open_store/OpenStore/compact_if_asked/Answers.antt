@@ -25,6 +25,7 @@ returns-in_err-picked g c =
       keeps = record {
         once = none_compacted _ g.E.Env.models_disk c.args.self.now (g.E.Env.observed c.args.env.now);
         kept = λ modelled below. meanwhile_none g.E.Env c.args.self.now.set.store c.args.env.now;
+        keeps = λ each modelled below. meanwhile_none g.E.Env c.args.self.now.set.store c.args.env.now;
         breaks = λ unbroken. inl unbroken;
       };
       log = refl;

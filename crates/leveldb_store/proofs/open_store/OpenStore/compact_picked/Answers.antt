@@ -5,6 +5,8 @@ use Rattle.leveldb_store.proofs.Compactions.CompactedLemmas.{compacts_then, noth
 use Rattle.leveldb_store.proofs.Compactions.CompactsOnceLemmas.{compacted_inputs, compacted_none, none_compacted}
 use Rattle.std.specs.Prelude.{IfSome}
 use Rattle.leveldb_store.specs.Compactions.Compact.{EndsByRemoval, LogsCompaction}
+use Rattle.leveldb_store.proofs.Keeping.KeptBytesLemmas.{meanwhile_none, meanwhile_removed}
+use Rattle.leveldb_store.specs.Keeping.KeptBytes.{AreKept, LosesNoBytesMeanwhile}
 use Rattle.leveldb_store.specs.Keeping.KeptEntries.{CompactsOnceAtMost}
 use Rattle.leveldb_store.specs.Keeping.OpenStore.{OpenStoreValue}
 use Rattle.leveldb_store.specs.Writing.Room.{TidiesUp}
@@ -77,6 +79,7 @@ pub returns-in_default-clause-keeps : goal.returns-in_default-clause-keeps
 returns-in_default-clause-keeps g c = record {
   once = none_compacted _ g.E.Env.models_disk c.args.self.now (g.E.Env.observed c.args.env.now);
   kept = tt;
+  keeps = λ each modelled below. meanwhile_none g.E.Env c.args.self.now.set.store c.args.env.now;
   breaks = λ unbroken. tt;
 }
 
@@ -89,16 +92,30 @@ returns-in_err-compact-clause-keeps g c =
       once = subst (λ cmp. CompactsOnceAtMost cmp g.E.Env.models_disk c.args.self.now (g.E.Env.observed c.args.env.now) c.compact.new.self (g.E.Env.observed c.compact.new.env)) c.requires.order
           (compacted_none failed);
       kept = failed.kept;
+      keeps = λ each. failed.kept;
       breaks = failed.breaks;
     })
 
 pub returns-clause-keeps : goal.returns-clause-keeps
-returns-clause-keeps g c = record {
-  once = subst (λ cmp. CompactsOnceAtMost cmp g.E.Env.models_disk c.args.self.now (g.E.Env.observed c.args.env.now) c.compact.new.self (g.E.Env.observed c.tidy_up.new.env)) c.requires.order
-      (compacted_inputs c.in_ok-compact.ensures.compacts c.tidy_up.ensures.tidies);
-  kept = tt;
-  breaks = λ unbroken. tt;
-}
+returns-clause-keeps g c =
+    let old = c.args.self.now in
+    let mid = c.compact.new.self in
+    let one = c.in_ok-compact.ensures.compacts in
+    let from = c.args.env.now in
+    let same : mid.kept_to ≡ old.kept_to = ap (λ (v : OpenStoreValue g.row.C.Denot). v.kept_to) one.memory in
+    record {
+      once = subst (λ cmp. CompactsOnceAtMost cmp g.E.Env.models_disk c.args.self.now (g.E.Env.observed c.args.env.now) c.compact.new.self (g.E.Env.observed c.tidy_up.new.env)) c.requires.order
+          (compacted_inputs c.in_ok-compact.ensures.compacts c.tidy_up.ensures.tidies);
+      kept = tt;
+      keeps = λ each modelled below.
+          subst (λ s. LosesNoBytesMeanwhile g.E.Env s from c.tidy_up.new.env) one.rest.store
+          (meanwhile_removed mid.set mid.kept_to g.E.Env from c.compact.new.env c.tidy_up.new.env
+          (subst (λ s. AreKept s (g.E.Env.observed from).disk.files mid.kept_to) (sym one.rest.store)
+          (subst (AreKept old.set.store (g.E.Env.observed from).disk.files) (sym same) (each modelled)))
+          (subst (λ s. LosesNoBytesMeanwhile g.E.Env s from c.compact.new.env) (sym one.rest.store)
+          (one.kept modelled below)) (c.tidy_up.ensures.removes.run modelled));
+      breaks = λ unbroken. tt;
+    }
 
 pub returns-in_default-clause-log : goal.returns-in_default-clause-log
 returns-in_default-clause-log g c = refl

@@ -64,7 +64,7 @@ returns-clause-makes g c =
       log = record { number = c.self.inside.log.number; writer = c.self.inside.log.file.writer };
       mem = c.self.inside.mem.kept;
       imm = option_map (λ memtable. memtable.kept) c.self.inside.imm;
-      keeps_files = c.self.inside.keeps_files;
+      kept_to = c.self.inside.kept_to;
     }) c.merge_tables.ensures.version))
 
 pub returns-clause-reference : goal.returns-clause-reference

@@ -5,7 +5,7 @@ use Rattle.leveldb_env.proofs.EnvLemmas.{Run-call, Run-mono}
 use Rattle.leveldb_env.specs.Env.{ListsChildren}
 use Rattle.leveldb_version_set.specs.Sets.VersionSetValue.{broken}
 use Rattle.leveldb_store.proofs.Keeping.OpenTablesLemmas.{no_removal, removal_then}
-use Rattle.leveldb_store.proofs.Keeping.RemoveLemmas.{RemovesObsolete-after, RemovesObsolete-kept, RemovesObsolete-unlisted, none_removed, removal_keeps, removing_after}
+use Rattle.leveldb_store.proofs.Keeping.RemoveLemmas.{RemovesObsolete-after, RemovesObsolete-unlisted, none_removed, removal_keeps, removing_after}
 use Rattle.leveldb_store.proofs.Writing.Level0TableLemmas.{keeps_nothing}
 use Rattle.leveldb_store.proofs.open_store.OpenStore.remove_obsolete.Goals as goal
 
@@ -15,16 +15,7 @@ returns-in_err-names-clause-keeps g c = λ modelled meaning allowed w.
     let from = g.E.Env.observed c.args.env.now in
     let to = g.E.Env.observed c.children.new.self in
     removal_keeps (g.C.Cmp.cmp old.cmp) meaning (λ store. IsTrue (allowed store)) old from to
-    (Run-mono (λ files same. none_removed old.set from.disk.files files same) (Run-call modelled c.in_err-names.ensures.does)) w
-
-pub returns-then-self-clause-removes : goal.returns-then-self-clause-removes
-returns-then-self-clause-removes g c =
-    let set = c.args.self.now.set in
-    let failed = err_from_is_err_and c.err.result c.err.ensures.code in
-    let same_set : c.self.inside.versions.set ≡ set = ap (λ v. v.set) c.self.view_is in
-    let usable : set.manifest ≢ broken = λ is. let never : false ≡ true = c.if-is_broken.ensures.1 (ap (λ v. v.manifest) same_set ∙ is) in cc in
-    let kept : IsTrue c.args.self.now.keeps_files = sym (ap (λ v. v.keeps_files) c.self.view_is) ∙ c.if-self.true in
-    rw failed.1 (RemovesObsolete-kept g.E.Env set c.args.env.now usable kept failed.0 failed.2)
+    (Run-mono (λ files same. none_removed old.set old.kept_to from.disk.files files same) (Run-call modelled c.in_err-names.ensures.does)) w
 
 pub returns-in_err-names-clause-removes : goal.returns-in_err-names-clause-removes
 returns-in_err-names-clause-removes g c =
@@ -33,8 +24,8 @@ returns-in_err-names-clause-removes g c =
     let same_set : c.self.inside.versions.set ≡ set = ap (λ v. v.set) c.self.view_is in
     let usable : set.manifest ≢ broken = λ is. let never : false ≡ true = c.if-is_broken.ensures.1 (ap (λ v. v.manifest) same_set ∙ is) in cc in
     let folder : c.deref.result.now ≡ set.store = c.deref.ensures ∙ sym c.self.invariant.0 ∙ ap (λ v. v.store) same_set in
-    rw (failed.1, failed.2) (RemovesObsolete-unlisted g.E.Env set c.args.env.now usable c.children.new.self _ (λ modelled. Run-call modelled c.in_err-names.ensures.does) c.in_err-names.ensures.locks
-    (rw folder at c.in_err-names.ensures.cause) (sym (ap (λ v. v.keeps_files) c.self.view_is) ∙ c.if-self.false))
+    rw (failed.1, failed.2) (RemovesObsolete-unlisted g.E.Env set c.args.self.now.kept_to c.args.env.now usable c.children.new.self _ (λ modelled. Run-call modelled c.in_err-names.ensures.does) c.in_err-names.ensures.locks
+    (rw folder at c.in_err-names.ensures.cause))
 
 pub returns-clause-removes : goal.returns-clause-removes
 returns-clause-removes g c =
@@ -47,8 +38,8 @@ returns-clause-removes g c =
     let listed : IsTrue g.E.Env.models_disk → ListsChildren (g.E.Env.observed from).disk.files set.store (map string_bytes c.deref-2.result.now) = λ modelled.
     subst (λ s. ListsChildren (g.E.Env.observed from).disk.files s (map string_bytes c.deref-2.result.now)) folder
     (subst (λ items. ListsChildren (g.E.Env.observed from).disk.files c.deref.result.now (map string_bytes items)) (sym c.deref-2.ensures.value) (c.in_ok-names.ensures.ok modelled)) in
-    RemovesObsolete-after g.E.Env set from usable mid (λ modelled. Run-call modelled c.in_ok-names.ensures.does) c.in_ok-names.ensures.cause.ok (map string_bytes c.deref-2.result.now) listed
-    c.remove_all.result c.remove_all.new.env c.remove_all.ensures.removes c.in_ok-names.ensures.locks (sym (ap (λ v. v.keeps_files) c.self.view_is) ∙ c.if-self.false)
+    RemovesObsolete-after g.E.Env set c.args.self.now.kept_to from usable mid (λ modelled. Run-call modelled c.in_ok-names.ensures.does) c.in_ok-names.ensures.cause.ok (map string_bytes c.deref-2.result.now) listed
+    c.remove_all.result c.remove_all.new.env c.remove_all.ensures.removes c.in_ok-names.ensures.locks
 
 pub returns-clause-keeps : goal.returns-clause-keeps
 returns-clause-keeps g c = λ modelled meaning allowed w.
@@ -57,7 +48,7 @@ returns-clause-keeps g c = λ modelled meaning allowed w.
     let mid = g.E.Env.observed c.children.new.self in
     let to = g.E.Env.observed c.remove_all.new.env in
     removal_keeps (g.C.Cmp.cmp old.cmp) meaning (λ store. IsTrue (allowed store)) old from to
-    (removing_after old.set from mid to (Run-call modelled c.in_ok-names.ensures.does) (c.remove_all.ensures.removes.run modelled)) w
+    (removing_after old.set old.kept_to from mid to (Run-call modelled c.in_ok-names.ensures.does) (c.remove_all.ensures.removes.run modelled)) w
 
 pub returns-clause-closes : goal.returns-clause-closes
 returns-clause-closes g c =
@@ -70,12 +61,6 @@ returns-then-is_broken-clause-closes g c = no_removal g.E.Env c.args.self.now.se
 
 pub returns-then-is_broken-clause-keeps : goal.returns-then-is_broken-clause-keeps
 returns-then-is_broken-clause-keeps g c = λ modelled meaning. keeps_nothing (g.C.Cmp.cmp c.args.self.now.cmp) meaning c.args.self.now (g.E.Env.observed c.args.env.now)
-
-pub returns-then-self-clause-closes : goal.returns-then-self-clause-closes
-returns-then-self-clause-closes g c = no_removal g.E.Env c.args.self.now.set c.args.env.now c.args.env.now c.args.tables.now (λ modelled. refl)
-
-pub returns-then-self-clause-keeps : goal.returns-then-self-clause-keeps
-returns-then-self-clause-keeps g c = λ modelled meaning. keeps_nothing (g.C.Cmp.cmp c.args.self.now.cmp) meaning c.args.self.now (g.E.Env.observed c.args.env.now)
 
 pub returns-in_err-live-clause-closes : goal.returns-in_err-live-clause-closes
 returns-in_err-live-clause-closes g c = no_removal g.E.Env c.args.self.now.set c.args.env.now c.args.env.now c.args.tables.now (λ modelled. refl)

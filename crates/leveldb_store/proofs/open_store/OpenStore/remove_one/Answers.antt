@@ -1,7 +1,7 @@
 use Rattle.std.proofs.Common.{◌≡◌, ◌∙◌, ap, false, inr, refl, subst, sym, true}
 use Rattle.leveldb_env.proofs.EnvLemmas.{Run-call, SameBut-deleted}
 use Rattle.leveldb_store.proofs.Keeping.OpenTablesLemmas.{other_removed, table_removed}
-use Rattle.leveldb_store.proofs.Keeping.RemoveLemmas.{not_obsolete_name}
+use Rattle.leveldb_store.proofs.Keeping.RemoveLemmas.{kept_name, not_obsolete_name}
 use Rattle.std.specs.Prelude.{IsTrue}
 use Rattle.leveldb_env.specs.Env.{SameBut, in_folder}
 use Rattle.leveldb_version.specs.Tables.TableCache.{files_at}
@@ -11,8 +11,16 @@ use Rattle.leveldb_store.proofs.open_store.OpenStore.remove_one.Goals as goal
 
 pub returns-then-not-is_obsolete-clause-removes : goal.returns-then-not-is_obsolete-clause-removes
 returns-then-not-is_obsolete-clause-removes g c = inr (
-  not_obsolete_name c.args.self.now.set c.args.name.now c.in-Some.number c.in-Some.kind c.in-Some.ensures
+  not_obsolete_name c.args.self.now.set c.args.self.now.kept_to c.args.name.now c.in-Some.number c.in-Some.kind c.in-Some.ensures
       (λ obsolete. let never : false ≡ true = c.if-not-is_obsolete.ensures.1 obsolete in cc),
+  refl,
+  refl,
+)
+
+pub returns-then-is_kept-clause-removes : goal.returns-then-is_kept-clause-removes
+returns-then-is_kept-clause-removes g c = inr (
+  kept_name c.args.self.now.set c.args.self.now.kept_to c.args.name.now c.in-Some.number c.in-Some.kind c.in-Some.ensures
+      (c.if-is_kept.ensures.0 refl),
   refl,
   refl,
 )

@@ -107,7 +107,7 @@ returns-clause-switches g c =
     let same = c.self-2.view_is ∙ c.in_ok-sync.ensures.syncs.ok ∙ given in
     let number_is = c.in_ok-number.ensures.number ∙ ap (λ v. v.set.next_file) c.self.view_is in
     switched g.E.Env old from more mid sync rest to (Ok c.in_ok-file.file) opening c.in_ok-file.ensures.locks _
-    (ap (λ v. v.cmp) same) (ap (λ v. v.keeps_files) same) (ap (λ v. v.current) same) (ap (λ v. v.set) same) (λ i. record { number = number_is i; writer = (c.in_ok-file.ensures.log i).writer })
+    (ap (λ v. v.cmp) same) (ap (λ v. v.kept_to) same) (ap (λ v. v.current) same) (ap (λ v. v.set) same) (λ i. record { number = number_is i; writer = (c.in_ok-file.ensures.log i).writer })
     (ap (λ m. m.kept.entries) c.replace.ensures.after ∙ c.new-fresh.ensures.entries)
     (ap (λ m. m.kept.places) c.replace.ensures.after ∙ c.new-fresh.ensures.places)
     (ap (λ m. Some m.kept) c.replace.ensures.value ∙ ap (λ v. Some v.mem) same) c.in_ok-file.ensures.cause.ok

@@ -81,7 +81,7 @@ returns-clause-tables g c =
       log = record { number = c.self.inside.log.number; writer = c.self.inside.log.file.writer };
       mem = c.self.inside.mem.kept;
       imm = option_map (λ memtable. memtable.kept) c.self.inside.imm;
-      keeps_files = c.self.inside.keeps_files;
+      kept_to = c.self.inside.kept_to;
     } in
     rw (← c.self.view_is, gone)
     (tables_logged g.E.Env _ old c.args.env.now usable c.in_ok-number.ensures.fits c.build_imm_table.new.env c.level_for-level.result c.in_ok-file.file made used.0 used.1 c.self.invariant.4 c.log_table.ensures.locks
@@ -201,7 +201,7 @@ returns-clause-none_new g c =
       log = record { number = c.self.inside.log.number; writer = c.self.inside.log.file.writer };
       mem = c.self.inside.mem.kept;
       imm = option_map (λ memtable. memtable.kept) c.self.inside.imm;
-      keeps_files = c.self.inside.keeps_files;
+      kept_to = c.self.inside.kept_to;
     } in
     rw (← c.self.view_is)
     (λ modelled meaning agrees w. subst (λ (v : OpenStoreValue g.row.C.Denot). AddsNoEntry (g.C.Cmp.cmp cmp) meaning old (files_at g.E.Env c.args.env.now) v (files_at g.E.Env c.log_table.new.env)) (sym gone)
@@ -225,7 +225,7 @@ returns-clause-added g c =
       log = record { number = c.self.inside.log.number; writer = c.self.inside.log.file.writer };
       mem = c.self.inside.mem.kept;
       imm = option_map (λ memtable. memtable.kept) c.self.inside.imm;
-      keeps_files = c.self.inside.keeps_files;
+      kept_to = c.self.inside.kept_to;
     } in
     rw (← c.self.view_is)
     (imm_added g.E.Env _ old c.args.env.now c.build_imm_table.new.env c.level_for-level.result c.in_ok-file.file some c.build_imm_table.ensures.entries made

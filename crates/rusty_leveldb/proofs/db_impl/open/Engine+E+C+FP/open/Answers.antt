@@ -123,7 +123,7 @@ returns-in_err-lock-2 g c =
     ))))
 
 pub invariant_of-result : goal.invariant_of-result
-invariant_of-result g c = λ is_open. c.in_default.ensures.ends.ok
+invariant_of-result g c = λ is_open. c.in_default.ensures.ends.first.ok
 
 pub returns-in_default : goal.returns-in_default
 returns-in_default g c = done_opens g.E.Env _ c.args.name.now c.args.options
