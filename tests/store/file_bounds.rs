@@ -14,11 +14,21 @@ use support::{Random, is_free};
 const KEYS: u64 = 60;
 
 /// The files have at most so many bytes for one of the pairs' keys and values, and so many more. A pair has a tag of 8 bytes and 3 of lengths in its
-/// table, and 10 bits in the filter; a table has 200 bytes around its blocks, and the manifest of an opening, with the edits of one compaction of all,
-/// less than a thousand.
+/// table, and 10 bits in the filter; a table has 200 bytes around its blocks, and the manifest of an opening, with the edits of compactions of all,
+/// less than two thousand.
 const TIMES: usize = 2;
 
 const MORE: usize = 3000;
+
+/// One compaction of all may leave what is shadowed by a level above; so many bring all of it to one level.
+const LEVELS: usize = 7;
+
+/// An opening begins a manifest of its own: one that is used on grows to the size of a table before a new one is begun.
+fn with_new_manifest() -> DefaultOptions {
+    let mut options = Options::default();
+    options.reuse_manifest = false;
+    options
+}
 
 /// A disk on which scripts run, and what draws them. A crash may change bytes that weren't synced, or not.
 #[derive(Drop)]
@@ -150,8 +160,10 @@ impl Trial {
     /// Compacts all, and returns how many bytes the pairs have that the store shows, and how many its files, but for damaged ones that were set aside.
     fn measure(&mut self) -> Result<(usize, usize)> {
         let mut live = 0;
-        let mut db = opened_db(self.alloc, &mut self.env, Options::default())?;
-        db.compact_range(b"", b"")?;
+        let mut db = opened_db(self.alloc, &mut self.env, with_new_manifest())?;
+        for _ in 0..LEVELS {
+            db.compact_range(b"", b"")?;
+        }
         let mut it = db.new_iter()?;
         while it.advance()? {
             if let Some((key, value)) = it.current() {
@@ -189,8 +201,8 @@ fn try_script(
     for _ in 0..2 + trial.random.below(4) {
         trial.live(rt)?;
     }
-    reopen(alloc, &mut trial.env, Options::default())?;
-    reopen(alloc, &mut trial.env, Options::default())?;
+    reopen(alloc, &mut trial.env, with_new_manifest())?;
+    reopen(alloc, &mut trial.env, with_new_manifest())?;
     let (live, bytes) = trial.measure()?;
     let files = files_of(alloc, &mut trial.env)?;
     assert!(rt;
