@@ -6,5 +6,6 @@
 mod engines;
 #[cfg(test)]
 mod example;
+pub mod says;
 #[cfg(test)]
 mod stores;
