@@ -127,3 +127,11 @@ pub fn code_of<E: Env>(env: &mut E, alloc: Global, call: Call<'_>) -> Result<Sta
     let (_, code) = shown(env, alloc, call)?;
     Ok(code)
 }
+
+/// The text of the error that a call gave, if it has one. A call that is Ok has the empty text.
+pub fn text_of<E: Env>(env: &mut E, alloc: Global, call: Call<'_>) -> Result<Option<String>> {
+    match run(env, alloc, call, &mut Vec::new(alloc)) {
+        Ok(()) => Ok(Some(String::new(alloc))),
+        Err(status) => Ok(status.err),
+    }
+}

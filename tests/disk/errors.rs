@@ -1,6 +1,6 @@
 //! The errors that a folder can be made to give.
-use super::calls::{Call, code_of};
-use leveldb_base::error::{Result, Status, StatusCode};
+use super::calls::{Call, code_of, text_of};
+use leveldb_base::error::{Result, StatusCode};
 use leveldb_disks::disk_env::PosixDiskEnv;
 use leveldb_env::env::Env;
 use std::alloc::Global;
@@ -184,16 +184,149 @@ fn modes_give_errors(rt: HostRuntime) -> Result<()> {
     env.rmdir("disk_tests_denied")
 }
 
-/// An error's text has the name and what the system says.
+/// In the folder of `ERRORS`: calls that fail, and their texts.
+const TEXTS: [(Call<'static>, &str); 18] = [
+    (
+        Call::Read("disk_tests_texts/x"),
+        "NotFound: open disk_tests_texts/x: No such file or directory (os error 2)",
+    ),
+    (
+        Call::ReadAt("/dev/zero", 0),
+        "IOError: open /dev/zero: it is no regular file",
+    ),
+    // a file whose first byte can't be read
+    (
+        Call::Read("/proc/self/mem"),
+        "IOError: read /proc/self/mem: Input/output error (os error 5)",
+    ),
+    (
+        Call::ReadAt("/proc/self/mem", 0),
+        "IOError: read /proc/self/mem: Input/output error (os error 5)",
+    ),
+    (
+        Call::Replace("disk_tests_texts/x/y", b""),
+        "NotFound: create disk_tests_texts/x/y: No such file or directory (os error 2)",
+    ),
+    (
+        Call::Append("disk_tests_texts/folder", b""),
+        "IOError: open disk_tests_texts/folder: Is a directory (os error 21)",
+    ),
+    (
+        Call::Append("disk_tests_texts/\0", b""),
+        "InvalidArgument: open disk_tests_texts/\0: file name contained an unexpected NUL byte",
+    ),
+    (
+        Call::Exists("/dev/zero"),
+        "IOError: look for /dev/zero: it is no regular file",
+    ),
+    (
+        Call::SizeOf("disk_tests_texts/folder"),
+        "NotFound: look at disk_tests_texts/folder: it is a folder",
+    ),
+    (
+        Call::Children("disk_tests_texts/x"),
+        "NotFound: list disk_tests_texts/x: No such file or directory (os error 2)",
+    ),
+    (
+        Call::Delete("disk_tests_texts/folder"),
+        "IOError: delete disk_tests_texts/folder: Is a directory (os error 21)",
+    ),
+    (
+        Call::Rename("disk_tests_texts/file", "disk_tests_texts/x/y"),
+        "NotFound: rename disk_tests_texts/file to disk_tests_texts/x/y: \
+No such file or directory (os error 2)",
+    ),
+    (
+        Call::Mkdir("disk_tests_texts/file"),
+        "IOError: make folder disk_tests_texts/file: File exists (os error 17)",
+    ),
+    (
+        Call::Mkdir("disk_tests_texts/file/x/y"),
+        "IOError: make folder disk_tests_texts/file/x/y: Not a directory (os error 20)",
+    ),
+    (
+        Call::Clear("disk_tests_texts/file"),
+        "IOError: remove folder disk_tests_texts/file: Not a directory (os error 20)",
+    ),
+    (
+        Call::Lock("disk_tests_texts/folder"),
+        "IOError: lock disk_tests_texts/folder: Is a directory (os error 21)",
+    ),
+    (
+        Call::Lock("disk_tests_texts/held"),
+        "LockError: lock disk_tests_texts/held: already held",
+    ),
+    (
+        Call::Unlock("disk_tests_texts/file"),
+        "LockError: unlock disk_tests_texts/file: not held",
+    ),
+];
+
+/// The index of the first call that gives another text, if one does. There may be no memory for a
+/// text.
+fn first_other_text<E: Env>(env: &mut E, alloc: Global) -> Result<Option<usize>> {
+    for (at, (call, text)) in TEXTS.iter().enumerate() {
+        let found = text_of(env, alloc, *call)?;
+        if found.as_ref().map_or(*text, |text| text.as_str()) != *text {
+            return Ok(Some(at));
+        }
+    }
+    Ok(None)
+}
+
+/// An error's text says what was being done to which file, and what the system says.
 #[test]
 fn errors_name_the_file(rt: HostRuntime) -> Result<()> {
     let mut env = PosixDiskEnv::new(&rt);
-    let Err(status) = env.size_of("disk_tests_missing") else {
-        return Err(Status::new(rt.alloc(), StatusCode::Unknown, "it is there"));
+    env.rmdir("disk_tests_texts")?;
+    env.mkdir("disk_tests_texts/folder")?;
+    env.open_appendable_file("disk_tests_texts/file")?;
+    env.lock("disk_tests_texts/held")?;
+    let other = first_other_text(&mut env, rt.alloc())?;
+    assert!(rt; other == None, "call {other:?}");
+    env.unlock("disk_tests_texts/held")?;
+    env.rmdir("disk_tests_texts")
+}
+
+/// Another environment holds the lock.
+#[test]
+fn held_locks_are_named(rt: HostRuntime) -> Result<()> {
+    let mut holder = PosixDiskEnv::new(&rt);
+    holder.mkdir("disk_tests_held")?;
+    holder.lock("disk_tests_held/LOCK")?;
+    let mut env = PosixDiskEnv::new(&rt);
+    let found = text_of(&mut env, rt.alloc(), Call::Lock("disk_tests_held/LOCK"))?;
+    let text = "LockError: lock disk_tests_held/LOCK: already held";
+    assert!(rt; found.as_ref().map_or(text, |text| text.as_str()) == text);
+    drop(env);
+    holder.unlock("disk_tests_held/LOCK")?;
+    holder.rmdir("disk_tests_held")
+}
+
+fn has_text(answer: Result<()>, text: &str) -> bool {
+    let Err(status) = answer else {
+        return false;
     };
-    let text = "NotFound: disk_tests_missing: No such file or directory (os error 2)";
-    assert!(rt; status.err.as_ref().map_or(text, |text| text.as_str()) == text);
-    Ok(())
+    status.err.as_ref().map_or(text, |text| text.as_str()) == text
+}
+
+/// Of an open file the errors have the name under which it was opened, also once it is gone.
+#[test]
+fn open_files_are_named(rt: HostRuntime) -> Result<()> {
+    let mut env = PosixDiskEnv::new(&rt);
+    env.mkdir("disk_tests_named")?;
+    env.open_writable_file("disk_tests_named/file")?;
+    let mut file = env.open_sequential_file("disk_tests_named/file")?;
+    env.rename("disk_tests_named/file", "disk_tests_named/other")?;
+    let text = "IOError: append disk_tests_named/file: Bad file descriptor (os error 9)";
+    assert!(rt; has_text(env.append(&mut file, b"x"), text));
+    // a file of the system that can't be synced
+    let mut file = env.open_sequential_file("/proc/self/stat")?;
+    let text = "InvalidArgument: sync /proc/self/stat: Invalid argument (os error 22)";
+    assert!(rt; has_text(env.sync(&mut file), text));
+    let text = "IOError: sync /proc/self/stat: an earlier sync failed: open it again";
+    assert!(rt; has_text(env.sync(&mut file), text));
+    env.rmdir("disk_tests_named")
 }
 
 /// A handle that was opened to be read takes no bytes.

@@ -1,11 +1,13 @@
 //! An environment over the files of the operating system.
 // LevelDB: util/env_posix.cc
-ghost use Rattle.std.specs.Prelude.{◌≡◌, ◌<◌, ◌^◌, ℕ, List, [], false, Err, IfOk, Ok, None};
+ghost use Rattle.std.specs.Prelude.{◌≡◌, ◌<◌, ◌^◌, ℕ, List, [], false, IfOk, IfErr, IfSome, IsErrAnd, Ok, string_bytes};
+ghost use Rattle.leveldb_base.specs.Error.{status_text};
 ghost use Rattle.leveldb_env.specs.Env.{HasCause};
-ghost use Rattle.leveldb_disks.specs.DiskEnv.{nothing_observed, IsExcused};
+ghost use Rattle.leveldb_disks.specs.DiskEnv.{nothing_observed, IsExcused, failed_call, NamesCall};
 ghost use Rattle.leveldb_disks.specs.DiskEnvLaws.{disk_only_now, disk_counts_now};
 
 mod calls;
+mod errors;
 mod folders;
 mod syncs;
 
@@ -21,7 +23,17 @@ use std::os::unix::fs::FileExt;
 use std::rt::{Clock, Files};
 use syncs::FailedSyncs;
 
+/// An open file of the system, and the name under which it was opened: what errors say of it.
+#[derive(Drop)]
+pub struct DiskFile {
+    name: String,
+    file: File,
+}
+
 /// The files of the operating system. A name is a path.
+///
+/// The text of each error says what was being done to which name, and then what the system says,
+/// where there is memory for a text: `append db/000003.log: No space left on device (os error 28)`.
 ///
 /// It reports its count of failures alone: what its disk holds is a premise, and no contract. A
 /// file or a folder is created, deleted or renamed, and then the folder of its name is synced;
@@ -57,26 +69,40 @@ impl<R: Files<File = File> + Clock + AllocGlobal + Clone + Drop> PosixDiskEnv<R>
 
 impl<R: AllocGlobal> PosixDiskEnv<R> {
     // What a call of the system returned. An error is counted, but for out of memory and for this
-    // code; its text names what was called upon.
+    // code; its text says what was being done to which name.
     fn settle<T>(
         &mut self,
         answer: io::Result<T>,
         uncounted: Option<StatusCode>,
+        doing: &str,
         name: &str,
     ) -> Result<T>
         ensures value { IfOk result (λ value. answer ≡ Ok value) }
+        ensures text { IfErr result (NamesCall doing.now name.now) }
         ensures cause { HasCause (IsExcused uncounted) self.old.failures self.new.failures result }
     {
         match answer {
             Ok(value) => Ok(value),
             Err(error) => {
-                let code = calls::code_of(error);
+                let code = errors::code_of(error);
                 if code != StatusCode::OutOfMemory && uncounted != Some(code) {
                     self.failures = self.failures.saturating_add(1);
                 }
-                Err(calls::status_of(self.rt.alloc(), code, name, error))
+                Err(errors::status_of(self.rt.alloc(), code, doing, name, error))
             }
         }
+    }
+
+    // The error of a call that found the lock of a name other than it needs.
+    #[cold]
+    fn lock_error<T>(&self, doing: &str, name: &str, why: &str) -> Result<T>
+        ensures code { IsErrAnd result (λ e. e.code ≡ StatusCode.LockError) }
+        ensures text { IsErrAnd result (λ e. IfSome e.err (λ text. string_bytes text
+            ≡ status_text StatusCode.LockError (failed_call doing.now name.now why.now))) }
+    {
+        let alloc = self.rt.alloc();
+        let code = StatusCode::LockError;
+        Err(errors::describe(alloc, code, doing, name, why))
     }
 }
 
@@ -93,19 +119,8 @@ impl<R> PosixDiskEnv<R> {
     }
 }
 
-// The error for a lock that is held, or for one that isn't. It takes no memory.
-#[cold]
-fn lock_error<T>() -> Result<T>
-    ensures { result ≡ Err (record { code = StatusCode.LockError; err = None }) }
-{
-    Err(Status {
-        code: StatusCode::LockError,
-        err: None,
-    })
-}
-
 impl<R: Files<File = File> + Clock + AllocGlobal + Clone + Drop> Env for PosixDiskEnv<R> {
-    type File = File;
+    type File = DiskFile;
 
     ghost models_disk = { false };
 
@@ -127,95 +142,128 @@ impl<R: Files<File = File> + Clock + AllocGlobal + Clone + Drop> Env for PosixDi
 
     ghost moments_need_disk = { λ modelled. modelled };
 
-    fn open_sequential_file(&mut self, name: &str) -> Result<File> {
+    fn open_sequential_file(&mut self, name: &str) -> Result<DiskFile> {
+        let own_name = String::from_str(self.rt.alloc(), name)?;
         let answer = calls::open(&self.rt, &mut self.syncs, name);
-        self.settle(answer, Some(StatusCode::NotFound), name)
+        let file = self.settle(answer, Some(StatusCode::NotFound), "open", name)?;
+        Ok(DiskFile {
+            name: own_name,
+            file,
+        })
     }
 
-    fn open_random_access_file(&mut self, name: &str) -> Result<File> {
+    fn open_random_access_file(&mut self, name: &str) -> Result<DiskFile> {
         self.open_sequential_file(name)
     }
 
-    fn open_writable_file(&mut self, name: &str) -> Result<File> {
+    fn open_writable_file(&mut self, name: &str) -> Result<DiskFile> {
+        let own_name = String::from_str(self.rt.alloc(), name)?;
         let is_settled = self.is_settled(name);
         let answer = calls::create_empty(&self.rt, &mut self.syncs, name, is_settled);
-        self.settle(answer, None, name)
+        let file = self.settle(answer, None, "create", name)?;
+        Ok(DiskFile {
+            name: own_name,
+            file,
+        })
     }
 
-    fn open_appendable_file(&mut self, name: &str) -> Result<File> {
+    fn open_appendable_file(&mut self, name: &str) -> Result<DiskFile> {
+        let own_name = String::from_str(self.rt.alloc(), name)?;
         let is_settled = self.is_settled(name);
         let answer = calls::create(&self.rt, &mut self.syncs, name, is_settled);
-        self.settle(answer, None, name)
+        let file = self.settle(answer, None, "open", name)?;
+        Ok(DiskFile {
+            name: own_name,
+            file,
+        })
     }
 
-    fn read(&mut self, file: &mut File, target: &mut [u8]) -> Result<usize> {
-        let answer = file.read(target);
-        self.settle(answer, Some(StatusCode::NotFound), "read")
+    fn read(&mut self, file: &mut DiskFile, target: &mut [u8]) -> Result<usize> {
+        let answer = file.file.read(target);
+        self.settle(
+            answer,
+            Some(StatusCode::NotFound),
+            "read",
+            file.name.as_str(),
+        )
     }
 
-    fn read_at(&mut self, file: &File, offset: usize, target: &mut [u8]) -> Result<usize> {
+    fn read_at(&mut self, file: &DiskFile, offset: usize, target: &mut [u8]) -> Result<usize> {
         // no file has bytes at offsets of 2^63 or more, and the system takes none that comes near
         if offset > (i64::MAX as usize).saturating_sub(target.len()) {
             return Ok(0);
         }
-        let answer = file.read_at(target, offset as u64);
-        self.settle(answer, Some(StatusCode::NotFound), "read")
+        let answer = file.file.read_at(target, offset as u64);
+        self.settle(
+            answer,
+            Some(StatusCode::NotFound),
+            "read",
+            file.name.as_str(),
+        )
     }
 
     #[tactic(auto, using(crate::proofs::DiskEnvLemmas::cause_not_gone))]
-    fn append(&mut self, file: &mut File, bytes: &[u8]) -> Result<()> {
-        let answer = self.syncs.append(file, bytes);
-        self.settle(answer, None, "append")
+    fn append(&mut self, file: &mut DiskFile, bytes: &[u8]) -> Result<()> {
+        let answer = self.syncs.append(&mut file.file, bytes);
+        self.settle(answer, None, "append", file.name.as_str())
     }
 
     #[tactic(auto, using(crate::proofs::DiskEnvLemmas::cause_not_gone))]
-    fn sync(&mut self, file: &mut File) -> Result<()> {
-        let answer = self.syncs.sync(file);
-        self.settle(answer, None, "sync")
+    fn sync(&mut self, file: &mut DiskFile) -> Result<()> {
+        let answer = self.syncs.sync(&file.file);
+        self.settle(answer, None, "sync", file.name.as_str())
     }
 
     fn exists(&mut self, name: &str) -> Result<bool> {
         let answer = calls::exists(&self.rt, &mut self.syncs, name);
-        self.settle(answer, None, name)
+        self.settle(answer, None, "look for", name)
     }
 
     fn children(&mut self, alloc: Global, folder: &str) -> Result<Vec<String>> {
         let answer = calls::children(&self.rt, &mut self.syncs, alloc, folder);
-        self.settle(answer, Some(StatusCode::NotFound), folder)
+        self.settle(answer, Some(StatusCode::NotFound), "list", folder)
     }
 
     fn size_of(&mut self, name: &str) -> Result<usize> {
         let answer = calls::size_of(&self.rt, &mut self.syncs, name);
-        self.settle(answer, Some(StatusCode::NotFound), name)
+        self.settle(answer, Some(StatusCode::NotFound), "look at", name)
     }
 
     fn delete(&mut self, name: &str) -> Result<()> {
         let answer = calls::delete(&self.rt, &mut self.syncs, name);
-        self.settle(answer, Some(StatusCode::NotFound), name)
+        self.settle(answer, Some(StatusCode::NotFound), "delete", name)
     }
 
     fn mkdir(&mut self, folder: &str) -> Result<()> {
         let answer = folders::make_folders(&self.rt, &mut self.syncs, folder);
-        self.settle(answer, None, folder)
+        self.settle(answer, None, "make folder", folder)
     }
 
     fn rmdir(&mut self, folder: &str) -> Result<()> {
         let answer = calls::remove_folder(&self.rt, &mut self.syncs, folder);
-        self.settle(answer, None, folder)
+        self.settle(answer, None, "remove folder", folder)
     }
 
     fn rename(&mut self, from: &str, to: &str) -> Result<()> {
         let answer = calls::rename(&self.rt, &mut self.syncs, from, to);
-        self.settle(answer, Some(StatusCode::NotFound), from)
+        if answer.is_ok() {
+            return Ok(());
+        }
+        match format!(in self.rt.alloc(); "{from} to {to}") {
+            Ok(names) => {
+                self.settle(answer, Some(StatusCode::NotFound), "rename", names.as_str())
+            }
+            Err(_) => self.settle(answer, Some(StatusCode::NotFound), "rename", from),
+        }
     }
 
     fn lock(&mut self, name: &str) -> Result<()> {
         if self.locks.contains_key(name) {
-            return lock_error();
+            return self.lock_error("lock", name, "already held");
         }
         let answer = calls::lock(&self.rt, &mut self.syncs, name);
-        let Some(file) = self.settle(answer, Some(StatusCode::LockError), name)? else {
-            return lock_error();
+        let Some(file) = self.settle(answer, Some(StatusCode::LockError), "lock", name)? else {
+            return self.lock_error("lock", name, "already held");
         };
         let name = String::from_str(self.rt.alloc(), name)?;
         self.locks.insert(name, file)?;
@@ -224,14 +272,13 @@ impl<R: Files<File = File> + Clock + AllocGlobal + Clone + Drop> Env for PosixDi
 
     fn unlock(&mut self, name: &str) -> Result<()> {
         let Some(file) = self.locks.get(name) else {
-            return lock_error();
+            return self.lock_error("unlock", name, "not held");
         };
-        if file.unlock().is_err() {
+        if let Err(error) = file.unlock() {
             self.failures = self.failures.saturating_add(1);
-            return Err(Status {
-                code: StatusCode::IOError,
-                err: None,
-            });
+            let alloc = self.rt.alloc();
+            let code = StatusCode::IOError;
+            return Err(errors::status_of(alloc, code, "unlock", name, error));
         }
         self.locks.remove(name);
         Ok(())
@@ -239,7 +286,7 @@ impl<R: Files<File = File> + Clock + AllocGlobal + Clone + Drop> Env for PosixDi
 
     fn micros(&mut self) -> Result<u64> {
         let answer = self.rt.since_1970();
-        let time = self.settle(answer, None, "time")?;
+        let time = self.settle(answer, None, "read", "the clock")?;
         Ok(u64::try_from(time.as_micros()).unwrap_or(u64::MAX))
     }
 }

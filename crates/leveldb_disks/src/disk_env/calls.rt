@@ -1,42 +1,14 @@
 //! The calls of the system that take a name, each with what makes it last.
 // LevelDB: util/env_posix.cc
-ghost use Rattle.std.specs.Prelude.{◌≡◌, None};
-ghost use Rattle.leveldb_base.specs.declared.error.StatusCode.TheVariants.{OutOfMemory};
-
 use super::folders::{folder_of, open_folder};
 use super::syncs::FailedSyncs;
-use leveldb_base::error::{Result, Status, StatusCode};
-use std::alloc::{AllocError, Global};
+use leveldb_base::error::Result;
+use std::alloc::Global;
 use std::fs::{File, OpenOptions, TryLockError};
 use std::os::fd::{AsRawFd, IntoRawFd};
 use std::os::unix::fs::{MetadataExt, OpenOptionsExt};
 use std::rt::Files;
 use std::{fs, io};
-
-/// The code of an error: `OutOfMemory` where memory was short.
-pub(super) fn code_of(error: io::Error) -> StatusCode {
-    if error.kind() == io::ErrorKind::OutOfMemory {
-        StatusCode::OutOfMemory
-    } else {
-        Status::from(error).code
-    }
-}
-
-/// A status with the code, and with the name and the error as its text, where there is memory for
-/// it.
-#[cold]
-pub(super) fn status_of(alloc: Global, code: StatusCode, name: &str, error: io::Error) -> Status
-    ensures code { result.code ≡ code }
-    ensures memory { code ≡ OutOfMemory → result.err ≡ None }
-{
-    if code == StatusCode::OutOfMemory {
-        return Status::from(AllocError);
-    }
-    match format!(in alloc; "{name}: {error}") {
-        Ok(msg) => Status::new(alloc, code, msg.as_str()),
-        Err(_) => Status { code, err: None },
-    }
-}
 
 /// The regular file of a name, if there is one. A folder is none; a pipe or a device is an error,
 /// since opening one may wait, and reading it may never end.

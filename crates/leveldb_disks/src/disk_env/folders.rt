@@ -73,6 +73,19 @@ fn make_folder(
     }
 }
 
+// The same of a folder above the one that is asked for. What is in its place, and no folder, is left
+// to that one's error.
+fn make_above(
+    files: &impl Files<File = File>,
+    syncs: &mut FailedSyncs,
+    above: &str,
+) -> io::Result<()> {
+    match make_folder(files, syncs, above) {
+        Err(error) if error.kind() == io::ErrorKind::AlreadyExists => Ok(()),
+        made => made,
+    }
+}
+
 /// Makes a folder and those above it, where they aren't there. The last one that is there is synced
 /// in the one above it first.
 pub(super) fn make_folders(
@@ -87,7 +100,7 @@ pub(super) fn make_folders(
     }
     for end in there.len().saturating_add(1)..folder.len() {
         match folder.split_at_checked(end) {
-            Some((above, rest)) if rest.starts_with('/') => make_folder(files, syncs, above)?,
+            Some((above, rest)) if rest.starts_with('/') => make_above(files, syncs, above)?,
             _ => {}
         }
     }
