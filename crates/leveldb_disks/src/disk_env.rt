@@ -9,25 +9,25 @@ ghost use Rattle.leveldb_disks.specs.DiskEnvLaws.{disk_only_now, disk_counts_now
 mod calls;
 mod errors;
 mod folders;
+mod host;
 mod syncs;
+pub mod system;
 
-pub use calls::reserve_descriptors;
 use folders::folder_of;
+pub use host::reserve_descriptors;
 use leveldb_base::error::{Result, Status, StatusCode};
 use leveldb_env::env::Env;
 use std::alloc::Global;
 use std::collections::BTreeMap;
-use std::fs::File;
 use std::io::{self, Read};
-use std::os::unix::fs::FileExt;
-use std::rt::{Clock, Files};
 use syncs::FailedSyncs;
+use system::{System, SystemFile};
 
 /// An open file of the system, and the name under which it was opened: what errors say of it.
 #[derive(Drop)]
-pub struct DiskFile {
+pub struct DiskFile<F> {
     name: String,
-    file: File,
+    file: F,
 }
 
 /// The files of the operating system. A name is a path.
@@ -41,25 +41,26 @@ pub struct DiskFile {
 /// a pipe or a device is refused. A handle that was opened to be read takes no bytes, nor does one
 /// of a file of which a sync failed: `open_appendable_file` puts a synced copy in its place.
 #[derive(Drop)]
-pub struct PosixDiskEnv<R> {
-    rt: R,
+pub struct PosixDiskEnv<S: System> {
+    system: S,
 
     // the locked names, and the open file that holds each lock
-    locks: BTreeMap<String, File>,
-    syncs: FailedSyncs,
+    locks: BTreeMap<String, S::File>,
+    syncs: FailedSyncs<S::File>,
     failures: u64,
     ghost counted: { failures < 2 ^ 64 },
 }
 
-impl<R: Files<File = File> + Clock + AllocGlobal + Clone + Drop> PosixDiskEnv<R> {
-    /// An environment over these files, which has locked no name and failed no call.
-    pub fn new(rt: R) -> PosixDiskEnv<R>
-        ensures no_failure { ⟦<PosixDiskEnv<R> as Env>⟧.failures result ≡ 0 }
+impl<S: System + AllocGlobal + Drop> PosixDiskEnv<S> {
+    /// An environment over the files of this system, as a program's runtime is one, which has
+    /// locked no name and failed no call.
+    pub fn new(system: S) -> PosixDiskEnv<S>
+        ensures no_failure { ⟦<PosixDiskEnv<S> as Env>⟧.failures result ≡ 0 }
     {
-        let locks = BTreeMap::new(rt.alloc());
-        let syncs = FailedSyncs::new(rt.alloc());
+        let locks = BTreeMap::new(system.alloc());
+        let syncs = FailedSyncs::new(system.alloc());
         PosixDiskEnv {
-            rt,
+            system,
             locks,
             syncs,
             failures: 0,
@@ -67,7 +68,7 @@ impl<R: Files<File = File> + Clock + AllocGlobal + Clone + Drop> PosixDiskEnv<R>
     }
 }
 
-impl<R: AllocGlobal> PosixDiskEnv<R> {
+impl<S: System + AllocGlobal> PosixDiskEnv<S> {
     // What a call of the system returned. An error is counted, but for out of memory and for this
     // code; its text says what was being done to which name.
     fn settle<T>(
@@ -88,7 +89,7 @@ impl<R: AllocGlobal> PosixDiskEnv<R> {
                 if code != StatusCode::OutOfMemory && uncounted != Some(code) {
                     self.failures = self.failures.saturating_add(1);
                 }
-                Err(errors::status_of(self.rt.alloc(), code, doing, name, error))
+                Err(errors::status_of(self.system.alloc(), code, doing, name, error))
             }
         }
     }
@@ -100,13 +101,13 @@ impl<R: AllocGlobal> PosixDiskEnv<R> {
         ensures text { IsErrAnd result (λ e. IfSome e.err (λ text. string_bytes text
             ≡ status_text StatusCode.LockError (failed_call doing.now name.now why.now))) }
     {
-        let alloc = self.rt.alloc();
+        let alloc = self.system.alloc();
         let code = StatusCode::LockError;
         Err(errors::describe(alloc, code, doing, name, why))
     }
 }
 
-impl<R> PosixDiskEnv<R> {
+impl<S: System> PosixDiskEnv<S> {
     // Whether the folder of a name was synced since others may have changed it: taking a lock in it
     // did that, and each change since is synced, or owed.
     fn is_settled(&self, name: &str) -> bool {
@@ -119,8 +120,8 @@ impl<R> PosixDiskEnv<R> {
     }
 }
 
-impl<R: Files<File = File> + Clock + AllocGlobal + Clone + Drop> Env for PosixDiskEnv<R> {
-    type File = DiskFile;
+impl<S: System + AllocGlobal + Drop> Env for PosixDiskEnv<S> {
+    type File = DiskFile<S::File>;
 
     ghost models_disk = { false };
 
@@ -142,9 +143,9 @@ impl<R: Files<File = File> + Clock + AllocGlobal + Clone + Drop> Env for PosixDi
 
     ghost moments_need_disk = { λ modelled. modelled };
 
-    fn open_sequential_file(&mut self, name: &str) -> Result<DiskFile> {
-        let own_name = String::from_str(self.rt.alloc(), name)?;
-        let answer = calls::open(&self.rt, &mut self.syncs, name);
+    fn open_sequential_file(&mut self, name: &str) -> Result<DiskFile<S::File>> {
+        let own_name = String::from_str(self.system.alloc(), name)?;
+        let answer = calls::open(&self.system, &mut self.syncs, name);
         let file = self.settle(answer, Some(StatusCode::NotFound), "open", name)?;
         Ok(DiskFile {
             name: own_name,
@@ -152,14 +153,15 @@ impl<R: Files<File = File> + Clock + AllocGlobal + Clone + Drop> Env for PosixDi
         })
     }
 
-    fn open_random_access_file(&mut self, name: &str) -> Result<DiskFile> {
+    fn open_random_access_file(&mut self, name: &str) -> Result<DiskFile<S::File>> {
         self.open_sequential_file(name)
     }
 
-    fn open_writable_file(&mut self, name: &str) -> Result<DiskFile> {
-        let own_name = String::from_str(self.rt.alloc(), name)?;
+    fn open_writable_file(&mut self, name: &str) -> Result<DiskFile<S::File>> {
+        let alloc = self.system.alloc();
+        let own_name = String::from_str(alloc, name)?;
         let is_settled = self.is_settled(name);
-        let answer = calls::create_empty(&self.rt, &mut self.syncs, name, is_settled);
+        let answer = calls::create_empty(&self.system, &mut self.syncs, alloc, name, is_settled);
         let file = self.settle(answer, None, "create", name)?;
         Ok(DiskFile {
             name: own_name,
@@ -167,10 +169,11 @@ impl<R: Files<File = File> + Clock + AllocGlobal + Clone + Drop> Env for PosixDi
         })
     }
 
-    fn open_appendable_file(&mut self, name: &str) -> Result<DiskFile> {
-        let own_name = String::from_str(self.rt.alloc(), name)?;
+    fn open_appendable_file(&mut self, name: &str) -> Result<DiskFile<S::File>> {
+        let alloc = self.system.alloc();
+        let own_name = String::from_str(alloc, name)?;
         let is_settled = self.is_settled(name);
-        let answer = calls::create(&self.rt, &mut self.syncs, name, is_settled);
+        let answer = calls::create(&self.system, &mut self.syncs, alloc, name, is_settled);
         let file = self.settle(answer, None, "open", name)?;
         Ok(DiskFile {
             name: own_name,
@@ -178,7 +181,7 @@ impl<R: Files<File = File> + Clock + AllocGlobal + Clone + Drop> Env for PosixDi
         })
     }
 
-    fn read(&mut self, file: &mut DiskFile, target: &mut [u8]) -> Result<usize> {
+    fn read(&mut self, file: &mut DiskFile<S::File>, target: &mut [u8]) -> Result<usize> {
         let answer = file.file.read(target);
         self.settle(
             answer,
@@ -188,7 +191,12 @@ impl<R: Files<File = File> + Clock + AllocGlobal + Clone + Drop> Env for PosixDi
         )
     }
 
-    fn read_at(&mut self, file: &DiskFile, offset: usize, target: &mut [u8]) -> Result<usize> {
+    fn read_at(
+        &mut self,
+        file: &DiskFile<S::File>,
+        offset: usize,
+        target: &mut [u8],
+    ) -> Result<usize> {
         // no file has bytes at offsets of 2^63 or more, and the system takes none that comes near
         if offset > (i64::MAX as usize).saturating_sub(target.len()) {
             return Ok(0);
@@ -203,53 +211,54 @@ impl<R: Files<File = File> + Clock + AllocGlobal + Clone + Drop> Env for PosixDi
     }
 
     #[tactic(auto, using(crate::proofs::DiskEnvLemmas::cause_not_gone))]
-    fn append(&mut self, file: &mut DiskFile, bytes: &[u8]) -> Result<()> {
+    fn append(&mut self, file: &mut DiskFile<S::File>, bytes: &[u8]) -> Result<()> {
         let answer = self.syncs.append(&mut file.file, bytes);
         self.settle(answer, None, "append", file.name.as_str())
     }
 
     #[tactic(auto, using(crate::proofs::DiskEnvLemmas::cause_not_gone))]
-    fn sync(&mut self, file: &mut DiskFile) -> Result<()> {
+    fn sync(&mut self, file: &mut DiskFile<S::File>) -> Result<()> {
         let answer = self.syncs.sync(&file.file);
         self.settle(answer, None, "sync", file.name.as_str())
     }
 
     fn exists(&mut self, name: &str) -> Result<bool> {
-        let answer = calls::exists(&self.rt, &mut self.syncs, name);
+        let answer = calls::exists(&self.system, &mut self.syncs, name);
         self.settle(answer, None, "look for", name)
     }
 
     fn children(&mut self, alloc: Global, folder: &str) -> Result<Vec<String>> {
-        let answer = calls::children(&self.rt, &mut self.syncs, alloc, folder);
+        let answer = calls::children(&self.system, &mut self.syncs, alloc, folder);
         self.settle(answer, Some(StatusCode::NotFound), "list", folder)
     }
 
     fn size_of(&mut self, name: &str) -> Result<usize> {
-        let answer = calls::size_of(&self.rt, &mut self.syncs, name);
+        let answer = calls::size_of(&self.system, &mut self.syncs, name);
         self.settle(answer, Some(StatusCode::NotFound), "look at", name)
     }
 
     fn delete(&mut self, name: &str) -> Result<()> {
-        let answer = calls::delete(&self.rt, &mut self.syncs, name);
+        let answer = calls::delete(&self.system, &mut self.syncs, name);
         self.settle(answer, Some(StatusCode::NotFound), "delete", name)
     }
 
     fn mkdir(&mut self, folder: &str) -> Result<()> {
-        let answer = folders::make_folders(&self.rt, &mut self.syncs, folder);
+        let answer = folders::make_folders(&self.system, &mut self.syncs, folder);
         self.settle(answer, None, "make folder", folder)
     }
 
     fn rmdir(&mut self, folder: &str) -> Result<()> {
-        let answer = calls::remove_folder(&self.rt, &mut self.syncs, folder);
+        let alloc = self.system.alloc();
+        let answer = calls::remove_folder(&self.system, &mut self.syncs, alloc, folder);
         self.settle(answer, None, "remove folder", folder)
     }
 
     fn rename(&mut self, from: &str, to: &str) -> Result<()> {
-        let answer = calls::rename(&self.rt, &mut self.syncs, from, to);
+        let answer = calls::rename(&self.system, &mut self.syncs, from, to);
         if answer.is_ok() {
             return Ok(());
         }
-        match format!(in self.rt.alloc(); "{from} to {to}") {
+        match format!(in self.system.alloc(); "{from} to {to}") {
             Ok(names) => {
                 self.settle(answer, Some(StatusCode::NotFound), "rename", names.as_str())
             }
@@ -261,11 +270,11 @@ impl<R: Files<File = File> + Clock + AllocGlobal + Clone + Drop> Env for PosixDi
         if self.locks.contains_key(name) {
             return self.lock_error("lock", name, "already held");
         }
-        let answer = calls::lock(&self.rt, &mut self.syncs, name);
+        let answer = calls::lock(&self.system, &mut self.syncs, name);
         let Some(file) = self.settle(answer, Some(StatusCode::LockError), "lock", name)? else {
             return self.lock_error("lock", name, "already held");
         };
-        let name = String::from_str(self.rt.alloc(), name)?;
+        let name = String::from_str(self.system.alloc(), name)?;
         self.locks.insert(name, file)?;
         Ok(())
     }
@@ -276,7 +285,7 @@ impl<R: Files<File = File> + Clock + AllocGlobal + Clone + Drop> Env for PosixDi
         };
         if let Err(error) = file.unlock() {
             self.failures = self.failures.saturating_add(1);
-            let alloc = self.rt.alloc();
+            let alloc = self.system.alloc();
             let code = StatusCode::IOError;
             return Err(errors::status_of(alloc, code, "unlock", name, error));
         }
@@ -285,7 +294,7 @@ impl<R: Files<File = File> + Clock + AllocGlobal + Clone + Drop> Env for PosixDi
     }
 
     fn micros(&mut self) -> Result<u64> {
-        let answer = self.rt.since_1970();
+        let answer = self.system.now();
         let time = self.settle(answer, None, "read", "the clock")?;
         Ok(u64::try_from(time.as_micros()).unwrap_or(u64::MAX))
     }

@@ -2,29 +2,23 @@
 // LevelDB: util/env_posix.cc
 use super::folders::{folder_of, open_folder};
 use super::syncs::FailedSyncs;
-use leveldb_base::error::Result;
+use super::system::{Kind, Node, Opening, System, SystemFile};
 use std::alloc::Global;
-use std::fs::{File, OpenOptions, TryLockError};
-use std::os::fd::{AsRawFd, IntoRawFd};
-use std::os::unix::fs::{MetadataExt, OpenOptionsExt};
-use std::rt::Files;
-use std::{fs, io};
+use std::io;
 
 /// The regular file of a name, if there is one. A folder is none; a pipe or a device is an error,
 /// since opening one may wait, and reading it may never end.
-fn file_at(files: &impl Files, name: &str) -> io::Result<fs::Metadata> {
-    let metadata = fs::metadata(files, name)?;
-    if metadata.is_dir() {
-        return Err(io::Error::new(io::ErrorKind::NotFound, "it is a folder"));
+fn file_at(system: &impl System, name: &str) -> io::Result<Node> {
+    let node = system.node_of(name)?;
+    match node.kind {
+        Kind::File => Ok(node),
+        Kind::Folder => Err(io::Error::new(io::ErrorKind::NotFound, "it is a folder")),
+        Kind::Other => Err(io::Error::other("it is no regular file")),
     }
-    if !metadata.is_file() {
-        return Err(io::Error::other("it is no regular file"));
-    }
-    Ok(metadata)
 }
 
-fn is_there(files: &impl Files, name: &str) -> io::Result<bool> {
-    match file_at(files, name) {
+fn is_there(system: &impl System, name: &str) -> io::Result<bool> {
+    match file_at(system, name) {
         Ok(_) => Ok(true),
         Err(error) if error.kind() == io::ErrorKind::NotFound => Ok(false),
         Err(error) => Err(error),
@@ -32,188 +26,165 @@ fn is_there(files: &impl Files, name: &str) -> io::Result<bool> {
 }
 
 /// Opens a file that is there, to be read.
-pub(super) fn open(
-    files: &impl Files<File = File>,
-    syncs: &mut FailedSyncs,
+pub(super) fn open<S: System>(
+    system: &S,
+    syncs: &mut FailedSyncs<S::File>,
     name: &str,
-) -> io::Result<File> {
+) -> io::Result<S::File> {
     syncs.pay()?;
-    file_at(files, name)?;
-    File::open(files, name)
-}
-
-// How a file is opened to be appended to.
-fn to_append() -> OpenOptions {
-    let mut options = OpenOptions::new();
-    options.read(true).append(true).mode(0o644);
-    options
+    file_at(system, name)?;
+    system.open(name, Opening::ToRead)
 }
 
 /// Opens a file, to be appended to; a missing one is created. Its folder is synced where the file
 /// is new, and where the folder `is_settled` by no earlier sync. A file of which a sync failed is
 /// replaced by a copy first.
-pub(super) fn create<R: Files<File = File> + AllocGlobal>(
-    rt: &R,
-    syncs: &mut FailedSyncs,
+pub(super) fn create<S: System>(
+    system: &S,
+    syncs: &mut FailedSyncs<S::File>,
+    alloc: Global,
     name: &str,
     is_settled: bool,
-) -> io::Result<File> {
+) -> io::Result<S::File> {
     syncs.pay()?;
-    if is_there(rt, name)? {
+    if is_there(system, name)? {
         if !is_settled {
-            syncs.sync_change(open_folder(rt, name)?)?;
+            syncs.sync_change(open_folder(system, name)?)?;
         }
-        let file = to_append().open(rt, name)?;
-        return replace_lossy(rt, syncs, name, file);
+        let file = system.open(name, Opening::ToAppend)?;
+        return replace_lossy(system, syncs, alloc, name, file);
     }
-    let folder = open_folder(rt, name)?;
-    let file = to_append().create(true).open(rt, name)?;
+    let folder = open_folder(system, name)?;
+    let file = system.open(name, Opening::ToAppendOrCreate)?;
     syncs.sync_change(folder)?;
     syncs.note_new(&file);
     Ok(file)
 }
 
 // The file, if none of its syncs failed; else a synced copy that has its name from now on.
-fn replace_lossy<R: Files<File = File> + AllocGlobal>(
-    rt: &R,
-    syncs: &mut FailedSyncs,
+fn replace_lossy<S: System>(
+    system: &S,
+    syncs: &mut FailedSyncs<S::File>,
+    alloc: Global,
     name: &str,
-    file: File,
-) -> io::Result<File> {
+    file: S::File,
+) -> io::Result<S::File> {
     if !syncs.is_lossy(&file)? {
         return Ok(file);
     }
-    let temp = format!(in rt.alloc(); "{name}.dbtmp")?;
-    let folder = open_folder(rt, name)?;
-    let _ = fs::remove_file(rt, temp.as_str());
-    match put_copy(rt, file, temp.as_str(), name) {
+    let temp = format!(in alloc; "{name}.dbtmp")?;
+    let folder = open_folder(system, name)?;
+    let _ = system.delete(temp.as_str());
+    match put_copy(system, file, temp.as_str(), name) {
         Ok(copy) => {
             syncs.note_new(&copy);
             syncs.sync_change(folder)?;
             Ok(copy)
         }
         Err(error) => {
-            let _ = fs::remove_file(rt, temp.as_str());
+            let _ = system.delete(temp.as_str());
             Err(error)
         }
     }
 }
 
 // Copies a file under a temporary name, syncs the copy, and renames it.
-fn put_copy(
-    files: &impl Files<File = File>,
-    mut file: File,
+fn put_copy<S: System>(
+    system: &S,
+    mut file: S::File,
     temp: &str,
     name: &str,
-) -> io::Result<File> {
-    let mut copy = to_append().create_new(true).open(files, temp)?;
-    copy.set_permissions(file.metadata()?.permissions())?;
+) -> io::Result<S::File> {
+    let mut copy = system.open(temp, Opening::ToCreate)?;
+    copy.set_mode(file.node()?.mode)?;
     io::copy(&mut file, &mut copy)?;
     copy.sync_all()?;
-    fs::rename(files, temp, name)?;
+    system.rename(temp, name)?;
     Ok(copy)
 }
 
 /// The same of a file that is emptied, for good.
-pub(super) fn create_empty<R: Files<File = File> + AllocGlobal>(
-    rt: &R,
-    syncs: &mut FailedSyncs,
+pub(super) fn create_empty<S: System>(
+    system: &S,
+    syncs: &mut FailedSyncs<S::File>,
+    alloc: Global,
     name: &str,
     is_settled: bool,
-) -> io::Result<File> {
-    let file = create(rt, syncs, name, is_settled)?;
-    if file.metadata()?.len() == 0 {
+) -> io::Result<S::File> {
+    let file = create(system, syncs, alloc, name, is_settled)?;
+    if file.node()?.size == 0 {
         return Ok(file);
     }
-    file.set_len(0)?;
+    file.empty()?;
     syncs.sync_change(file)
 }
 
 /// Whether a file has the name.
-pub(super) fn exists(files: &impl Files, syncs: &mut FailedSyncs, name: &str) -> io::Result<bool> {
+pub(super) fn exists<S: System>(
+    system: &S,
+    syncs: &mut FailedSyncs<S::File>,
+    name: &str,
+) -> io::Result<bool> {
     syncs.pay()?;
-    match is_there(files, name) {
+    match is_there(system, name) {
         Err(error) if error.kind() == io::ErrorKind::NotADirectory => Ok(false),
         found => found,
     }
 }
 
 /// How many bytes the file has.
-pub(super) fn size_of(
-    files: &impl Files,
-    syncs: &mut FailedSyncs,
+pub(super) fn size_of<S: System>(
+    system: &S,
+    syncs: &mut FailedSyncs<S::File>,
     name: &str,
 ) -> io::Result<usize> {
     syncs.pay()?;
-    Ok(file_at(files, name)?.len() as usize)
+    Ok(file_at(system, name)?.size as usize)
 }
 
 /// The names in a folder that are texts, but for those of folders. What a link leads to isn't
 /// looked at.
-pub(super) fn children<R: Files + Alloc + Clone + Drop>(
-    rt: &R,
-    syncs: &mut FailedSyncs,
+pub(super) fn children<S: System>(
+    system: &S,
+    syncs: &mut FailedSyncs<S::File>,
     alloc: Global,
     folder: &str,
 ) -> io::Result<Vec<String>> {
     syncs.pay()?;
     // a folder without folders in it has the links of its own name and of its `.`
-    let may_have_folders = fs::metadata(rt, folder)?.nlink() != 2;
-    let mut names = Vec::new(alloc);
-    for entry in fs::read_dir(rt, folder)? {
-        match entry {
-            Ok(entry) => {
-                if !(may_have_folders && is_folder_itself(&entry)) {
-                    names.push(String::from_str(alloc, entry.file_name())?)?;
-                }
-            }
-            Err(error) if error.kind() == io::ErrorKind::InvalidFilename => {}
-            Err(error) => return Err(error),
-        }
-    }
-    Ok(names)
-}
-
-// Where its kind can't be found out, it counts as a file.
-fn is_folder_itself<R: Files>(entry: &fs::DirEntry<R, R::A>) -> bool
-where
-    R: Alloc,
-{
-    match entry.file_type() {
-        Ok(kind) => kind.is_dir(),
-        Err(_) => false,
-    }
+    let may_have_folders = system.node_of(folder)?.links != 2;
+    system.list(alloc, folder, may_have_folders)
 }
 
 /// Removes a file and its name.
-pub(super) fn delete(
-    files: &impl Files<File = File>,
-    syncs: &mut FailedSyncs,
+pub(super) fn delete<S: System>(
+    system: &S,
+    syncs: &mut FailedSyncs<S::File>,
     name: &str,
 ) -> io::Result<()> {
     syncs.pay()?;
-    let folder = open_folder(files, name)?;
-    fs::remove_file(files, name)?;
+    let folder = open_folder(system, name)?;
+    system.delete(name)?;
     syncs.sync_change(folder)?;
     Ok(())
 }
 
 /// Renames a file.
-pub(super) fn rename(
-    files: &impl Files<File = File>,
-    syncs: &mut FailedSyncs,
+pub(super) fn rename<S: System>(
+    system: &S,
+    syncs: &mut FailedSyncs<S::File>,
     from: &str,
     to: &str,
 ) -> io::Result<()> {
     syncs.pay()?;
-    let folder = open_folder(files, to)?;
+    let folder = open_folder(system, to)?;
     if folder_of(from) == folder_of(to) {
-        fs::rename(files, from, to)?;
+        system.rename(from, to)?;
         syncs.sync_change(folder)?;
         return Ok(());
     }
-    let old_folder = open_folder(files, from)?;
-    fs::rename(files, from, to)?;
+    let old_folder = open_folder(system, from)?;
+    system.rename(from, to)?;
     let synced = syncs.sync_change(folder);
     syncs.sync_change(old_folder)?;
     synced?;
@@ -221,72 +192,57 @@ pub(super) fn rename(
 }
 
 /// Removes a folder, where it is there, with all that is in it.
-pub(super) fn remove_folder<R: Files<File = File> + Alloc>(
-    rt: &R,
-    syncs: &mut FailedSyncs,
+pub(super) fn remove_folder<S: System>(
+    system: &S,
+    syncs: &mut FailedSyncs<S::File>,
+    alloc: Global,
     folder: &str,
 ) -> io::Result<()> {
     syncs.pay()?;
-    match remove_all(rt, syncs, folder) {
+    match remove_all(system, syncs, alloc, folder) {
         Err(error) if error.kind() == io::ErrorKind::NotFound => Ok(()),
         removed => removed,
     }
 }
 
-fn remove_all<R: Files<File = File> + Alloc>(
-    rt: &R,
-    syncs: &mut FailedSyncs,
+fn remove_all<S: System>(
+    system: &S,
+    syncs: &mut FailedSyncs<S::File>,
+    alloc: Global,
     folder: &str,
 ) -> io::Result<()> {
-    let above = open_folder(rt, folder)?;
-    fs::remove_dir_all(rt, folder)?;
+    let above = open_folder(system, folder)?;
+    system.remove_folder(alloc, folder)?;
     syncs.sync_change(above)?;
     Ok(())
+}
+
+// Locks an open file, unless another opening of it holds a lock. Returns whether it did; a lock that
+// is of no use ends where the file is closed.
+fn try_lock<S: System>(system: &S, file: &S::File) -> io::Result<bool> {
+    Ok(file.try_lock()? && !system.others_lock(file)?)
 }
 
 /// Opens a file and locks it; none where another opening of it holds the lock. A missing file is
 /// created. Once it is locked its folder is synced: who held the lock before may have ended between
 /// a change and its sync.
-pub(super) fn lock(
-    files: &impl Files<File = File>,
-    syncs: &mut FailedSyncs,
+pub(super) fn lock<S: System>(
+    system: &S,
+    syncs: &mut FailedSyncs<S::File>,
     name: &str,
-) -> io::Result<Option<File>> {
+) -> io::Result<Option<S::File>> {
     syncs.pay()?;
-    let folder = open_folder(files, name)?;
-    let is_new = !is_there(files, name)?;
-    let file = to_append().create(is_new).open(files, name)?;
-    let locked = file.try_lock();
-    if is_new || locked.is_ok() {
+    let folder = open_folder(system, name)?;
+    let is_new = !is_there(system, name)?;
+    let opening = if is_new {
+        Opening::ToAppendOrCreate
+    } else {
+        Opening::ToAppend
+    };
+    let file = system.open(name, opening)?;
+    let locked = try_lock(system, &file);
+    if is_new || matches!(locked, Ok(true)) {
         syncs.sync_change(folder)?;
     }
-    match locked {
-        Ok(()) => Ok(Some(file)),
-        Err(TryLockError::WouldBlock) => Ok(None),
-        Err(TryLockError::Error(error)) => Err(error),
-    }
-}
-
-// Opens `/dev/null`, and leaves it open if its descriptor is at most this one. Returns whether it
-// is.
-fn leave_open(files: &impl Files<File = File>, how: &OpenOptions, most: i32) -> io::Result<bool> {
-    let file = how.open(files, "/dev/null")?;
-    if file.as_raw_fd() > most {
-        return Ok(false);
-    }
-    file.into_raw_fd();
-    Ok(true)
-}
-
-/// Keeps the descriptors 0 to 2 from files that are opened later, so that nothing which is printed
-/// goes into a store. Call it first in a program: where standard input, output or error is closed,
-/// it opens `/dev/null` in its place, such that it can't be read or written either.
-pub fn reserve_descriptors(files: &impl Files<File = File>) -> Result<()> {
-    leave_open(files, OpenOptions::new().write(true), 0)?;
-    for _ in 0..3 {
-        if !leave_open(files, OpenOptions::new().read(true), 2)? {
-            break;
-        }
-    }
-    Ok(())
+    Ok(if locked? { Some(file) } else { None })
 }

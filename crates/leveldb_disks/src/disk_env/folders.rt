@@ -1,10 +1,8 @@
 //! Folders, whose syncs make the names in them last.
 // LevelDB: util/env_posix.cc, PosixWritableFile::SyncDirIfManifest
 use super::syncs::FailedSyncs;
-use std::fs::{self, DirBuilder, File};
+use super::system::{Kind, Opening, System};
 use std::io;
-use std::os::unix::fs::DirBuilderExt;
-use std::rt::Files;
 
 /// The folder that a name is in, up to its `/`.
 pub(super) fn folder_of(name: &str) -> &str {
@@ -15,22 +13,22 @@ pub(super) fn folder_of(name: &str) -> &str {
 }
 
 /// Opens the folder of a name, before the name is changed.
-pub(super) fn open_folder(files: &impl Files<File = File>, name: &str) -> io::Result<File> {
-    File::open(files, folder_of(name))
+pub(super) fn open_folder<S: System>(system: &S, name: &str) -> io::Result<S::File> {
+    system.open(folder_of(name), Opening::ToRead)
 }
 
-fn is_folder(files: &impl Files, path: &str) -> bool {
-    match fs::metadata(files, path) {
-        Ok(metadata) => metadata.is_dir(),
+fn is_folder(system: &impl System, path: &str) -> bool {
+    match system.node_of(path) {
+        Ok(node) => node.kind == Kind::Folder,
         Err(_) => false,
     }
 }
 
 // The longest part of a path that is a folder; it is empty where none is.
-fn part_there<'a>(files: &impl Files, path: &'a str) -> &'a str {
+fn part_there<'a>(system: &impl System, path: &'a str) -> &'a str {
     let mut part = path.trim_end_matches('/');
     for _ in 0..path.len() {
-        if is_folder(files, part) {
+        if is_folder(system, part) {
             break;
         }
         part = match part.rsplit_once('/') {
@@ -43,12 +41,12 @@ fn part_there<'a>(files: &impl Files, path: &'a str) -> &'a str {
 
 // Syncs a folder that is there in the one above it: who made it may have ended before its sync.
 // One above that can't be read is passed over.
-fn keep_folder(
-    files: &impl Files<File = File>,
-    syncs: &mut FailedSyncs,
+fn keep_folder<S: System>(
+    system: &S,
+    syncs: &mut FailedSyncs<S::File>,
     folder: &str,
 ) -> io::Result<()> {
-    match open_folder(files, folder) {
+    match open_folder(system, folder) {
         Ok(above) => {
             syncs.sync_change(above)?;
             Ok(())
@@ -58,14 +56,14 @@ fn keep_folder(
     }
 }
 
-fn make_folder(
-    files: &impl Files<File = File>,
-    syncs: &mut FailedSyncs,
+fn make_folder<S: System>(
+    system: &S,
+    syncs: &mut FailedSyncs<S::File>,
     folder: &str,
 ) -> io::Result<()> {
-    let above = open_folder(files, folder)?;
-    match DirBuilder::new().mode(0o755).create(files, folder) {
-        Err(error) if !is_folder(files, folder) => Err(error),
+    let above = open_folder(system, folder)?;
+    match system.make_folder(folder) {
+        Err(error) if !is_folder(system, folder) => Err(error),
         _ => {
             syncs.sync_change(above)?;
             Ok(())
@@ -75,12 +73,12 @@ fn make_folder(
 
 // The same of a folder above the one that is asked for. What is in its place, and no folder, is left
 // to that one's error.
-fn make_above(
-    files: &impl Files<File = File>,
-    syncs: &mut FailedSyncs,
+fn make_above<S: System>(
+    system: &S,
+    syncs: &mut FailedSyncs<S::File>,
     above: &str,
 ) -> io::Result<()> {
-    match make_folder(files, syncs, above) {
+    match make_folder(system, syncs, above) {
         Err(error) if error.kind() == io::ErrorKind::AlreadyExists => Ok(()),
         made => made,
     }
@@ -88,24 +86,24 @@ fn make_above(
 
 /// Makes a folder and those above it, where they aren't there. The last one that is there is synced
 /// in the one above it first.
-pub(super) fn make_folders(
-    files: &impl Files<File = File>,
-    syncs: &mut FailedSyncs,
+pub(super) fn make_folders<S: System>(
+    system: &S,
+    syncs: &mut FailedSyncs<S::File>,
     folder: &str,
 ) -> io::Result<()> {
     syncs.pay()?;
-    let there = part_there(files, folder);
+    let there = part_there(system, folder);
     if !there.is_empty() {
-        keep_folder(files, syncs, there)?;
+        keep_folder(system, syncs, there)?;
     }
     for end in there.len().saturating_add(1)..folder.len() {
         match folder.split_at_checked(end) {
-            Some((above, rest)) if rest.starts_with('/') => make_above(files, syncs, above)?,
+            Some((above, rest)) if rest.starts_with('/') => make_above(system, syncs, above)?,
             _ => {}
         }
     }
-    if is_folder(files, folder) {
+    if is_folder(system, folder) {
         return Ok(());
     }
-    make_folder(files, syncs, folder)
+    make_folder(system, syncs, folder)
 }

@@ -1,18 +1,17 @@
 //! What is left to be done where a sync failed.
 // LevelDB: util/env_posix.cc, PosixWritableFile::SyncFd
+use super::system::SystemFile;
 use std::alloc::Global;
 use std::collections::BTreeSet;
-use std::fs::File;
-use std::io::{self, Write};
-use std::os::unix::fs::MetadataExt;
+use std::io;
 
 /// The syncs that failed: of folders after a change of a name, and of files after appends.
 #[derive(Drop)]
-pub(super) struct FailedSyncs {
+pub(super) struct FailedSyncs<F> {
     // Folders with a changed name, and files that were emptied. A crash may undo the change until
     // one of their syncs is Ok. No call leaves more than two.
-    owed: Option<File>,
-    other_owed: Option<File>,
+    owed: Option<F>,
+    other_owed: Option<F>,
 
     // Files, as pairs of device and inode, of which the system may have dropped appended bytes.
     lossy: BTreeSet<(u64, u64)>,
@@ -21,8 +20,8 @@ pub(super) struct FailedSyncs {
     any_lossy: bool,
 }
 
-impl FailedSyncs {
-    pub(super) fn new(alloc: Global) -> FailedSyncs {
+impl<F: SystemFile> FailedSyncs<F> {
+    pub(super) fn new(alloc: Global) -> FailedSyncs<F> {
         FailedSyncs {
             owed: None,
             other_owed: None,
@@ -33,7 +32,7 @@ impl FailedSyncs {
 
     /// Syncs a folder after a change of a name in it, or a file after it was emptied, and gives it
     /// back. Where that fails the sync is owed.
-    pub(super) fn sync_change(&mut self, changed: File) -> io::Result<File> {
+    pub(super) fn sync_change(&mut self, changed: F) -> io::Result<F> {
         match changed.sync_all() {
             Ok(()) => Ok(changed),
             Err(error) => {
@@ -62,13 +61,13 @@ impl FailedSyncs {
     }
 
     /// Appends to a file, unless one of its syncs failed.
-    pub(super) fn append(&self, file: &mut File, bytes: &[u8]) -> io::Result<()> {
+    pub(super) fn append(&self, file: &mut F, bytes: &[u8]) -> io::Result<()> {
         self.refuse_lossy(file)?;
         file.write_all(bytes)
     }
 
     /// Syncs what was appended to a file, unless one of its syncs failed.
-    pub(super) fn sync(&mut self, file: &File) -> io::Result<()> {
+    pub(super) fn sync(&mut self, file: &F) -> io::Result<()> {
         self.refuse_lossy(file)?;
         let synced = file.sync_data();
         if synced.is_err() {
@@ -79,7 +78,7 @@ impl FailedSyncs {
 
     /// Whether a sync of the file failed. From then on the system may take pages for written that
     /// aren't on the disk, so a later sync says nothing.
-    pub(super) fn is_lossy(&self, file: &File) -> io::Result<bool> {
+    pub(super) fn is_lossy(&self, file: &F) -> io::Result<bool> {
         if self.any_lossy || self.lossy.is_empty() {
             return Ok(self.any_lossy);
         }
@@ -88,7 +87,7 @@ impl FailedSyncs {
     }
 
     /// Notes that this is another file than the one that had its inode.
-    pub(super) fn note_new(&mut self, file: &File) {
+    pub(super) fn note_new(&mut self, file: &F) {
         if self.lossy.is_empty() {
             return;
         }
@@ -97,14 +96,14 @@ impl FailedSyncs {
         }
     }
 
-    fn refuse_lossy(&self, file: &File) -> io::Result<()> {
+    fn refuse_lossy(&self, file: &F) -> io::Result<()> {
         if self.is_lossy(file)? {
             return Err(io::Error::other("an earlier sync failed: open it again"));
         }
         Ok(())
     }
 
-    fn note_lossy(&mut self, file: &File) {
+    fn note_lossy(&mut self, file: &F) {
         let is_noted = match node_of(file) {
             Ok(node) => self.lossy.insert(node).is_ok(),
             Err(_) => false,
@@ -115,7 +114,7 @@ impl FailedSyncs {
     }
 }
 
-fn node_of(file: &File) -> io::Result<(u64, u64)> {
-    let metadata = file.metadata()?;
-    Ok((metadata.dev(), metadata.ino()))
+fn node_of(file: &impl SystemFile) -> io::Result<(u64, u64)> {
+    let node = file.node()?;
+    Ok((node.device, node.inode))
 }
