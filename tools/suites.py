@@ -2,7 +2,7 @@
 """Puts crates and suites into a folder, where they are run unproved: what ./test and other tools share.
 
     tools/suites.py FOLDER NAME..         the crates of crates.txt and the suites of tests/suites.txt of these names, with all that they use
-    tools/suites.py --prove FOLDER NAME   a program of tests/suites.txt and what it uses, proofs and built libraries too, so that `rt run` proves it
+    tools/suites.py --prove FOLDER NAME   a program or a library of tests/suites.txt and what it uses, proofs and built libraries too, so that rt proves it
 
 The folder gets a crates.txt, and for each crate crates/NAME/src, with specs where it has them. The suites become modules of one crate, crates/suites,
 so that what they use is built once: tests/NAME/*.rs are crates/suites/src/NAME/*.rt. What suites share, and a program,
@@ -149,12 +149,13 @@ def put_proved(name, folder):
 def assemble_to_prove(folder, program):
     """Puts a program and all that it uses into a folder, which may have what an earlier run left there."""
     uses = with_below([program])
-    for part in ("src", "specs", "proofs"):
-        shutil.rmtree(pathlib.Path(folder, "crates", program, part), ignore_errors=True)
-    put_alone(program, folder)
     for name in uses:
         if name in crates():
             put_proved(name, folder)
+            continue
+        for part in ("src", "specs", "proofs"):
+            shutil.rmtree(pathlib.Path(folder, "crates", name, part), ignore_errors=True)
+        put_alone(name, folder)
     list_crates(folder, uses)
     # (rt takes the top of a repository for that of the crates)
     subprocess.run(["git", "init", "-q", str(folder)], check=True)

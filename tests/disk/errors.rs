@@ -3,6 +3,7 @@ use super::calls::{Call, code_of, text_of};
 use leveldb_base::error::{Result, StatusCode};
 use leveldb_disks::disk_env::PosixDiskEnv;
 use leveldb_env::env::Env;
+use os_system::OsSystem;
 use std::alloc::Global;
 use std::fs::{self, Permissions};
 use std::os::unix::fs::PermissionsExt;
@@ -142,16 +143,29 @@ fn first_other<E: Env>(
     Ok(None)
 }
 
-#[test]
-fn folders_give_errors(rt: HostRuntime) -> Result<()> {
-    let mut env = PosixDiskEnv::new(&rt);
+/// The same of `ERRORS`, which leave the file as it is.
+fn first_other_error<E: Env>(env: &mut E, alloc: Global) -> Result<Option<usize>> {
     env.rmdir("disk_tests_errors")?;
     env.mkdir("disk_tests_errors/folder")?;
-    let file = env.open_appendable_file(FILE)?;
-    let other = first_other(&mut env, rt.alloc(), &ERRORS)?;
+    env.open_appendable_file(FILE)?;
+    if let Some(other) = first_other(env, alloc, &ERRORS)? {
+        return Ok(Some(other));
+    }
+    if env.size_of(FILE)? > 0 {
+        return Ok(Some(ERRORS.len()));
+    }
+    env.rmdir("disk_tests_errors")?;
+    Ok(None)
+}
+
+#[test]
+fn folders_give_errors(rt: HostRuntime) -> Result<()> {
+    let alloc = rt.alloc();
+    let other = first_other_error(&mut PosixDiskEnv::new(&rt), alloc)?;
     assert!(rt; other == None, "call {other:?}");
-    assert!(rt; env.size_of(FILE)? == 0);
-    env.rmdir("disk_tests_errors")
+    let other = first_other_error(&mut PosixDiskEnv::new(OsSystem::new(alloc)), alloc)?;
+    assert!(rt; other == None, "call {other:?} of os_system");
+    Ok(())
 }
 
 /// Makes a folder that can't be written to, with a file that can't be read.
@@ -167,25 +181,31 @@ fn close_folder<E: Env>(files: &impl Files, env: &mut E) -> Result<()> {
 
 /// The index of the first call that isn't denied. Root may write to the folder in spite of its
 /// mode, and then there is none.
-fn first_allowed<E: Env>(env: &mut E, alloc: Global) -> Result<Option<usize>> {
-    if code_of(env, alloc, Call::Append("disk_tests_denied/x", b""))? == StatusCode::OK {
-        return Ok(None);
-    }
-    first_other(env, alloc, &DENIED)
+fn first_allowed<E: Env>(files: &impl Files, env: &mut E, alloc: Global) -> Result<Option<usize>> {
+    close_folder(files, env)?;
+    let is_root = code_of(env, alloc, Call::Append("disk_tests_denied/x", b""))? == StatusCode::OK;
+    let found = if is_root {
+        None
+    } else {
+        first_other(env, alloc, &DENIED)?
+    };
+    fs::set_permissions(files, "disk_tests_denied", Permissions::from_mode(0o755))?;
+    env.rmdir("disk_tests_denied")?;
+    Ok(found)
 }
 
 #[test]
 fn modes_give_errors(rt: HostRuntime) -> Result<()> {
-    let mut env = PosixDiskEnv::new(&rt);
-    close_folder(&rt, &mut env)?;
-    let allowed = first_allowed(&mut env, rt.alloc())?;
-    fs::set_permissions(&rt, "disk_tests_denied", Permissions::from_mode(0o755))?;
+    let alloc = rt.alloc();
+    let allowed = first_allowed(&rt, &mut PosixDiskEnv::new(&rt), alloc)?;
     assert!(rt; allowed == None, "call {allowed:?}");
-    env.rmdir("disk_tests_denied")
+    let allowed = first_allowed(&rt, &mut PosixDiskEnv::new(OsSystem::new(alloc)), alloc)?;
+    assert!(rt; allowed == None, "call {allowed:?} of os_system");
+    Ok(())
 }
 
 /// In the folder of `ERRORS`: calls that fail, and their texts.
-const TEXTS: [(Call<'static>, &str); 18] = [
+const TEXTS: [(Call<'static>, &str); 17] = [
     (
         Call::Read("disk_tests_texts/x"),
         "NotFound: open disk_tests_texts/x: No such file or directory (os error 2)",
@@ -210,10 +230,6 @@ const TEXTS: [(Call<'static>, &str); 18] = [
     (
         Call::Append("disk_tests_texts/folder", b""),
         "IOError: open disk_tests_texts/folder: Is a directory (os error 21)",
-    ),
-    (
-        Call::Append("disk_tests_texts/\0", b""),
-        "InvalidArgument: open disk_tests_texts/\0: file name contained an unexpected NUL byte",
     ),
     (
         Call::Exists("/dev/zero"),
@@ -265,27 +281,30 @@ No such file or directory (os error 2)",
 /// The index of the first call that gives another text, if one does. There may be no memory for a
 /// text.
 fn first_other_text<E: Env>(env: &mut E, alloc: Global) -> Result<Option<usize>> {
+    env.rmdir("disk_tests_texts")?;
+    env.mkdir("disk_tests_texts/folder")?;
+    env.open_appendable_file("disk_tests_texts/file")?;
+    env.lock("disk_tests_texts/held")?;
     for (at, (call, text)) in TEXTS.iter().enumerate() {
         let found = text_of(env, alloc, *call)?;
         if found.as_ref().map_or(*text, |text| text.as_str()) != *text {
             return Ok(Some(at));
         }
     }
+    env.unlock("disk_tests_texts/held")?;
+    env.rmdir("disk_tests_texts")?;
     Ok(None)
 }
 
 /// An error's text says what was being done to which file, and what the system says.
 #[test]
 fn errors_name_the_file(rt: HostRuntime) -> Result<()> {
-    let mut env = PosixDiskEnv::new(&rt);
-    env.rmdir("disk_tests_texts")?;
-    env.mkdir("disk_tests_texts/folder")?;
-    env.open_appendable_file("disk_tests_texts/file")?;
-    env.lock("disk_tests_texts/held")?;
-    let other = first_other_text(&mut env, rt.alloc())?;
+    let alloc = rt.alloc();
+    let other = first_other_text(&mut PosixDiskEnv::new(&rt), alloc)?;
     assert!(rt; other == None, "call {other:?}");
-    env.unlock("disk_tests_texts/held")?;
-    env.rmdir("disk_tests_texts")
+    let other = first_other_text(&mut PosixDiskEnv::new(OsSystem::new(alloc)), alloc)?;
+    assert!(rt; other == None, "call {other:?} of os_system");
+    Ok(())
 }
 
 /// Another environment holds the lock.

@@ -3,6 +3,7 @@ use super::calls::{Call, shown};
 use leveldb_base::error::{Result, StatusCode};
 use leveldb_disks::disk_env::{PosixDiskEnv, reserve_descriptors};
 use leveldb_env::env::Env;
+use os_system::OsSystem;
 use std::alloc::Global;
 
 const FOLDER: &str = "disk_tests_files/in";
@@ -52,28 +53,32 @@ const CALLS: [(Call<'static>, &[u8], StatusCode); 32] = [
 
 /// The index of the first call that returns something else, if one does.
 fn first_other<E: Env>(env: &mut E, alloc: Global) -> Result<Option<usize>> {
+    env.rmdir("disk_tests_files")?;
+    env.mkdir(FOLDER)?;
     for (at, (call, bytes, code)) in CALLS.iter().enumerate() {
         let (found, found_code) = shown(env, alloc, *call)?;
         if found.as_slice() != *bytes || found_code != *code {
             return Ok(Some(at));
         }
     }
+    env.rmdir("disk_tests_files")?;
     Ok(None)
 }
 
 #[test]
 fn calls_return_what_files_hold(rt: HostRuntime) -> Result<()> {
     reserve_descriptors(&rt)?;
-    let mut env = PosixDiskEnv::new(&rt);
-    env.rmdir("disk_tests_files")?;
-    env.mkdir(FOLDER)?;
-    let other = first_other(&mut env, rt.alloc())?;
+    let alloc = rt.alloc();
+    let other = first_other(&mut PosixDiskEnv::new(&rt), alloc)?;
     assert!(rt; other == None, "call {other:?}");
-    env.rmdir("disk_tests_files")
+    let other = first_other(&mut PosixDiskEnv::new(OsSystem::new(alloc)), alloc)?;
+    assert!(rt; other == None, "call {other:?} of os_system");
+    Ok(())
 }
 
 /// Bytes that two handles append alternately, and that one of them reads back.
 fn alternate<E: Env>(env: &mut E, alloc: Global) -> Result<Vec<u8>> {
+    env.mkdir("disk_tests_handles")?;
     let mut one = env.open_writable_file("disk_tests_handles/a")?;
     let mut other = env.open_appendable_file("disk_tests_handles/a")?;
     env.append(&mut one, b"abc")?;
@@ -88,10 +93,12 @@ fn alternate<E: Env>(env: &mut E, alloc: Global) -> Result<Vec<u8>> {
 #[test]
 fn two_handles_append_to_one_file(rt: HostRuntime) -> Result<()> {
     let mut env = PosixDiskEnv::new(&rt);
-    env.mkdir("disk_tests_handles")?;
+    let mut other = PosixDiskEnv::new(OsSystem::new(rt.alloc()));
     let read = alternate(&mut env, rt.alloc())?;
     assert!(rt; read.as_slice() == b"abcdef".as_slice());
-    let first = env.micros()?;
-    assert!(rt; first > 1_700_000_000_000_000);
+    let read = alternate(&mut other, rt.alloc())?;
+    assert!(rt; read.as_slice() == b"abcdef".as_slice());
+    let (first, second) = (env.micros()?, other.micros()?);
+    assert!(rt; first > 1_700_000_000_000_000 && second >= first && second < first + 60_000_000);
     env.rmdir("disk_tests_handles")
 }

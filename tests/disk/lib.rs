@@ -12,3 +12,7 @@ mod links;
 mod locks;
 #[cfg(test)]
 mod scripts;
+#[cfg(test)]
+mod syncs;
+#[cfg(test)]
+mod watched;

@@ -4,6 +4,7 @@ use leveldb_base::error::Result;
 use leveldb_base::error::StatusCode::{self, LockError, OK};
 use leveldb_disks::disk_env::PosixDiskEnv;
 use leveldb_env::env::Env;
+use os_system::OsSystem;
 use std::alloc::Global;
 
 const LOCK: &str = "disk_tests_locks/l";
@@ -26,10 +27,14 @@ const CALLS: [(bool, Call<'static>, StatusCode); 11] = [
     (false, Call::Unlock(LOCK), LockError),
 ];
 
-fn first_other<E: Env>(one: &mut E, other: &mut E, alloc: Global) -> Result<Option<usize>> {
+fn first_other<E: Env, F: Env>(one: &mut E, other: &mut F, alloc: Global) -> Result<Option<usize>> {
     for (at, (is_first, call, code)) in CALLS.iter().enumerate() {
-        let env = if *is_first { &mut *one } else { &mut *other };
-        if code_of(env, alloc, *call)? != *code {
+        let found = if *is_first {
+            code_of(one, alloc, *call)?
+        } else {
+            code_of(other, alloc, *call)?
+        };
+        if found != *code {
             return Ok(Some(at));
         }
     }
@@ -40,11 +45,23 @@ fn first_other<E: Env>(one: &mut E, other: &mut E, alloc: Global) -> Result<Opti
 /// dropped.
 #[test]
 fn locks_keep_others_out(rt: HostRuntime) -> Result<()> {
+    let alloc = rt.alloc();
     let mut one = PosixDiskEnv::new(&rt);
     one.mkdir("disk_tests_locks")?;
     let mut other = PosixDiskEnv::new(&rt);
-    let found = first_other(&mut one, &mut other, rt.alloc())?;
+    let found = first_other(&mut one, &mut other, alloc)?;
     assert!(rt; found == None, "call {found:?}");
+    drop(other);
+    let mut other = PosixDiskEnv::new(OsSystem::new(alloc));
+    let found = first_other(&mut one, &mut other, alloc)?;
+    assert!(rt; found == None, "call {found:?} beside os_system");
+    drop(other);
+    one.lock(LOCK)?;
+    one.unlock(LOCK)?;
+    let mut one = PosixDiskEnv::new(OsSystem::new(alloc));
+    let mut other = PosixDiskEnv::new(OsSystem::new(alloc));
+    let found = first_other(&mut one, &mut other, alloc)?;
+    assert!(rt; found == None, "call {found:?} of os_system");
     drop(other);
     one.lock(LOCK)?;
     one.rmdir("disk_tests_locks")

@@ -4,6 +4,7 @@ use leveldb_base::error::Result;
 use leveldb_disks::disk_env::PosixDiskEnv;
 use leveldb_env::env::Env;
 use leveldb_env::mem_env::MemEnv;
+use os_system::OsSystem;
 use std::alloc::Global;
 
 const FOLDER: &str = "disk_tests_scripts";
@@ -68,6 +69,8 @@ fn call_of(kind: u64, name: usize, other: usize) -> Call<'static> {
 
 /// How many of 500 random calls give the same over both, until one doesn't.
 fn count_agreed<E: Env, F: Env>(one: &mut E, other: &mut F, alloc: Global) -> Result<usize> {
+    one.rmdir(FOLDER)?;
+    one.mkdir(FOLDER)?;
     let mut state = 20_261_124;
     for count in 0..500 {
         let (kind, name, folder) = next(&mut state);
@@ -75,17 +78,17 @@ fn count_agreed<E: Env, F: Env>(one: &mut E, other: &mut F, alloc: Global) -> Re
             return Ok(count);
         }
     }
+    one.rmdir(FOLDER)?;
     Ok(500)
 }
 
 #[test]
 fn memory_and_files_give_the_same(rt: HostRuntime) -> Result<()> {
     let alloc = rt.alloc();
-    let mut files = PosixDiskEnv::new(&rt);
-    let mut memory = MemEnv::new(alloc);
-    files.rmdir(FOLDER)?;
-    files.mkdir(FOLDER)?;
-    let count = count_agreed(&mut files, &mut memory, alloc)?;
+    let count = count_agreed(&mut PosixDiskEnv::new(&rt), &mut MemEnv::new(alloc), alloc)?;
     assert!(rt; count == 500, "call {count}");
-    files.rmdir(FOLDER)
+    let mut files = PosixDiskEnv::new(OsSystem::new(alloc));
+    let count = count_agreed(&mut files, &mut MemEnv::new(alloc), alloc)?;
+    assert!(rt; count == 500, "call {count} of os_system");
+    Ok(())
 }
