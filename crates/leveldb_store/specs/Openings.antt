@@ -6,4 +6,5 @@ pub mod OpeningState
 pub mod Listing
 pub mod OpeningSteps
 pub mod EndsOpening
+pub mod DamageSteps
 pub mod OpensToRead

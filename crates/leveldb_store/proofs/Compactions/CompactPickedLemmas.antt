@@ -170,9 +170,9 @@ module _ {E F C FP D P : Type 0} (order : CmpGhosts (InternalKeyCmp C)) (env : G
           tidied time bytes).rest;
       still_open = λ has. open_after_removal env by old.set old.kept_to (files_at env from)
           (files_at env to)
-          (tidied.others has.modelled) tables now closes.closes has.are;
+          (tidied.run has.modelled).has tables now closes.closes has.are;
       none_new = λ has meaning agrees w. adds_none_removed by.format.order meaning old
-          (files_at env from) (files_at env to) w (tidied.others has.modelled);
+          (files_at env from) (files_at env to) w (tidied.run has.modelled).has;
       sound = sound_ok env by.format.order
           (λ meaning. HasOpenTables order env by old from tables × Agrees by.format meaning) old
           from tt old to (time, bytes);

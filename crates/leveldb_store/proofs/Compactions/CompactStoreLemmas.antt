@@ -42,14 +42,14 @@ use Rattle.leveldb_version.specs.declared.table_cache.TableCache.{TableCache}
 use Rattle.leveldb_store.proofs.Compactions.CompactEditLemmas.{compaction_encodable, is_compaction_edit}
 use Rattle.leveldb_store.proofs.Compactions.CompactKeepsLemmas.{HasMade, full_then, keeps_logged, keeps_new, keeps_unlogged, with_numbers}
 use Rattle.leveldb_store.proofs.Keeping.GivenTablesLemmas.{SameGiven, given_same, same_beside, same_then}
-use Rattle.leveldb_store.proofs.Keeping.KeptBytesLemmas.{loses_appending, loses_by_tables, meanwhile_then}
+use Rattle.leveldb_store.proofs.Keeping.KeptBytesLemmas.{kept_by_tables, loses_appending, loses_by_tables, meanwhile_then, spares_kept_then}
 use Rattle.leveldb_store.proofs.Keeping.OpenTablesLemmas.{stay_open}
 use Rattle.leveldb_store.proofs.Keeping.SoundLemmas.{GoesOn, appending_bytes, failed_later, failed_once, goes_on_then, never_broken, sound_ok, sound_unbroken, written_manifest}
 use Rattle.leveldb_store.proofs.Keeping.TableKeepsLemmas.{appending_and_syncing, is_table_path, live_below, types_apart}
 use Rattle.leveldb_store.proofs.Keeping.WrittenFromLemmas.{keeps_from}
 use Rattle.leveldb_store.specs.Tables.BuildTable.{TableChoices}
 use Rattle.leveldb_store.specs.Compactions.Compact.{CompactsInFull, CompactsStore, FailsToCompact, HasTablesWritten, LogsCompaction, MakesReplacements, ReplacesFiles}
-use Rattle.leveldb_store.specs.Keeping.KeptBytes.{NewTablesLoseNothing}
+use Rattle.leveldb_store.specs.Keeping.KeptBytes.{IsKeptPath, IsNotReplaced, NewTablesLoseNothing, SparesKept}
 use Rattle.leveldb_store.specs.Openings.Opening.{GivesNumbers}
 use Rattle.leveldb_store.specs.Keeping.OpenStore.{HasOwnManifest, IsUnbroken, OpenStoreValue}
 use Rattle.leveldb_store.specs.Keeping.OpenTables.{AreOpenTablesOf}
@@ -115,6 +115,12 @@ module _ {E F C FP D P X : Type 0} (order : CmpGhosts (InternalKeyCmp C)) {keys 
         (λ now same. loses_by_tables store old.set.next_file n (files_at env from) now below same)
         (m.changes.run modelled)
 
+    kept_made : SparesKept env.models_disk old.set old.kept_to (env.observed from)
+        (env.observed at)
+    kept_made modelled = Run-mono
+        (λ now same. kept_by_tables old.set old.kept_to n (files_at env from) now same)
+        (m.changes.run modelled)
+
     goes_on_made : GoesOn env from at
     goes_on_made = (λ modelled. (m.changes.run modelled).time.later, m.changes.bytes)
 
@@ -133,6 +139,7 @@ module _ {E F C FP D P X : Type 0} (order : CmpGhosts (InternalKeyCmp C)) {keys 
       numbers = m.gives.rises;
       tables = λ modelled. given_same old.set (files_at env from) (files_at env at)
           (same_made modelled);
+      kept = kept_made;
       locks = m.changes.locks;
     }
 
@@ -268,7 +275,16 @@ module _ {E F C FP D P X : Type 0} (order : CmpGhosts (InternalKeyCmp C)) {keys 
         → NewTablesLoseNothing env store from to old.set.next_file
     loses_all result logs modelled below =
         meanwhile_then env store (loses_made (Ok x) m modelled below)
-        (Run-mono (λ now passes. loses_appending store manifest.path
+        (Run-mono (λ now passes. loses_appending (IsNotReplaced store) manifest.path
+        (frame manifest.writer (edit_record mid.set edit)) (files_at env at) now passes)
+        (Run-call modelled ((logs manifest used).does modelled)))
+
+    kept_all : (result : Result (Unit {0}) Status) → Logs result
+        → SparesKept env.models_disk old.set old.kept_to (env.observed from) (env.observed to)
+    kept_all result logs =
+        spares_kept_then old.set old.set refl (omega arith) refl
+        (kept_made (Ok x) m) (λ modelled. Run-mono
+        (λ now passes. loses_appending (IsKeptPath old.set old.kept_to) manifest.path
         (frame manifest.writer (edit_record mid.set edit)) (files_at env at) now passes)
         (Run-call modelled ((logs manifest used).does modelled)))
 
@@ -399,6 +415,7 @@ module _ {E F C FP D P X : Type 0} (order : CmpGhosts (InternalKeyCmp C)) {keys 
           numbers = omega (arith, m.gives.rises, either (λ s. s.next_file) refl);
           tables = λ modelled. given_same old.set (files_at env from) (files_at env to)
               (same_all (Err status) logs modelled);
+          kept = kept_all (Err status) logs;
           locks = locks_all;
         };
         kept = loses_all (Err status) logs;
@@ -502,6 +519,7 @@ module _ {E F C FP D P X : Type 0} (order : CmpGhosts (InternalKeyCmp C)) {keys 
           numbers = omega (arith, m.gives.rises, part_is (λ s. s.next_file));
           tables = λ modelled. given_same old.set (files_at env from) (files_at env to)
               (same_all (Ok tt) logs modelled);
+          kept = kept_all (Ok tt) logs;
           locks = locks_all;
         };
         kept = loses_all (Ok tt) logs;

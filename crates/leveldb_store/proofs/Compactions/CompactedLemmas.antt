@@ -15,6 +15,7 @@ use Rattle.leveldb_files.specs.Stores.Format.{Agrees, Meaning}
 use Rattle.leveldb_files.specs.Levels.Levels.{LiveTable, table_entries}
 use Rattle.leveldb_version.specs.Tables.TableCache.{TableOptions, files_at}
 use Rattle.leveldb_version.specs.declared.table_cache.TableCache.{TableCache}
+use Rattle.leveldb_store.proofs.Keeping.KeptBytesLemmas.{spares_kept_none}
 use Rattle.leveldb_store.proofs.Keeping.GivenTablesLemmas.{given_same}
 use Rattle.leveldb_store.proofs.Keeping.NoNewEntriesLemmas.{adds_none, adds_none_then}
 use Rattle.leveldb_store.proofs.Writing.RoomLemmas.{spares_then}
@@ -202,6 +203,7 @@ spares_none env old from = record {
   numbers = omega arith;
   tables = λ modelled. given_same old.set (env.observed from).disk.files
       (env.observed from).disk.files (λ number fits given. refl);
+  kept = spares_kept_none old.set old.kept_to (env.observed from);
   locks = λ modelled. refl;
 }
 

@@ -199,5 +199,5 @@ module _ {E F C FP D P : Type 0} {order : CmpGhosts (InternalKeyCmp C)} {env : G
           ≡ (env.observed at).disk.files (table_path s file.0.number)) one.rest.store
           (live_table_left new.set file.0 file.1
           (subst (λ n. n < 2 ^ 64) (sym file.2) fits) new.kept_to (env.observed at).disk.files
-          (env.observed to).disk.files (tidied.others modelled)))
+          (env.observed to).disk.files (tidied.run modelled).has))
           ∙ one.given modelled number fits given

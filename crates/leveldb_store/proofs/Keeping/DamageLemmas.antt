@@ -27,7 +27,8 @@ use Rattle.leveldb_version_set.specs.Sets.VersionSetValue.{VersionSetValue}
 use Rattle.leveldb_store.specs.Keeping.KeptBytes.{AreKept, HasNumberThere}
 use Rattle.leveldb_store.specs.Keeping.OpenStore.{OpenStoreValue}
 use Rattle.leveldb_store.specs.Keeping.Written.{KeepsWritten}
-use Rattle.leveldb_store.specs.Openings.EndsOpening.{IsFileLost, LooksAtName, LooksAtNames, LooksForDamage}
+use Rattle.leveldb_store.specs.Openings.DamageSteps.{IsNameLost, LooksAtName, LooksAtNames}
+use Rattle.leveldb_store.specs.Openings.EndsOpening.{LooksForDamage}
 use Rattle.leveldb_store.specs.Writing.Room.{HasFailed}
 
 module _ {E F C : Type 0} (env : Ghosts E F) (cmp : List ℕ → List ℕ → Ordering)
@@ -189,7 +190,7 @@ module _ {E F : Type 0} (env : Ghosts E F) (set : VersionSetValue) (from : E) wh
   -- one that can't be looked at
   pub looks_in_vain : {X : Type 0} (path_of : X → Option (List ℕ)) (name : List ℕ) (status : Status)
       (to : E) → env.failures from ≤ env.failures to
-      → IsFileLost env set from name status ⊎ HasFailed (env.failures from) (env.failures to)
+      → IsNameLost env set from name status ⊎ HasFailed (env.failures from) (env.failures to)
       → LooksAtName env set from name path_of (Err status) to
   looks_in_vain path_of name status to later why =
       record { damaged = tt; cause = record { later = later; cause = why } }

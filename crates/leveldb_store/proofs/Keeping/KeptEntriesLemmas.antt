@@ -256,7 +256,7 @@ module _ {E F : Type 0} (env : Ghosts E F) (format : Format) where
     entries_tidied cmp old from to tidied = entries_stay old from old to refl refl (record {
       live = λ file there. there;
       files = λ file there modelled fits given. live_table_left old.set file there fits
-          old.kept_to (env.observed from).disk.files (env.observed to).disk.files (tidied.others modelled);
+          old.kept_to (env.observed from).disk.files (env.observed to).disk.files (tidied.run modelled).has;
     })
 
     -- ---- one call after another

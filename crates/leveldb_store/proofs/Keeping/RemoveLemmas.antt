@@ -514,6 +514,12 @@ in_rest_of zero names name c = c
 in_rest_of (suc i) [] name c = c
 in_rest_of (suc i) (first ∷ names) name c = in_rest first name names (in_rest_of i names name c)
 
+pub in_first_of : (i : ℕ) (names : List (List ℕ)) (name : List ℕ) → Contains (take i names) name → Contains names name
+in_first_of zero names name c = absurd (in_none name c)
+in_first_of (suc i) [] name c = absurd (in_none name c)
+in_first_of (suc i) (first ∷ names) name c = ⊎_elim (λ (same : first ≡ name). subst (Contains (first ∷ names)) same (in_front first names))
+    (λ (later : Contains (take i names) name). in_rest first name names (in_first_of i names name later)) (in_cases first name (take i names) c)
+
 module _ {E F : Type 0} (env : Ghosts E F) (set : VersionSetValue) (kept_to : Option ℕ) (from : E) where
   -- the files of the names after the first ones are as they were
   abbrev RestThere : List (List ℕ) → ℕ → E → Type 0

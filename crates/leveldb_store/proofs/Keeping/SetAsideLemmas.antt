@@ -458,6 +458,32 @@ module _ (store path : List ℕ) (journal : IsJournal store path) (mid : Files) 
           deleted_at true e = subst (λ p. deleted path mid p ≡ None) ((bytes_decides path at).0 e) (at_same path None mid)
           deleted_at false e = at_other path None mid at e ∙ none
 
+-- where several are set aside, what is gone stays so
+pub gone_aside : (store : List ℕ) (IsOne : List ℕ → Type 0)
+    → ((path : List ℕ) → IsOne path → IsJournal store path) → (before after : Files)
+    → AreSetAside IsOne before after → (at : List ℕ) → IsJournal store at → before at ≡ None
+    → after at ≡ None
+gone_aside store IsOne journals before after aside at is none =
+    ap (λ (f : Files). f at) aside.files ∙ by aside.paths aside.each
+  where
+    by : (paths : List (List ℕ)) → ((path : List ℕ) → Contains paths path → IsOne path)
+        → with_aside paths before at ≡ None
+    by [] each = none
+    by (path ∷ paths) each =
+        gone_still store path (journals path (each path (in_front path paths)))
+        (with_aside paths before) at is
+        (by paths (λ other there. each other (in_rest path other paths there)))
+
+-- and what has such a name keeps it
+pub taken_aside : (store : List ℕ) (IsOne : List ℕ → Type 0)
+    → ((path : List ℕ) → IsOne path → IsJournal store path) → (before after : Files)
+    → AreSetAside IsOne before after → (at : List ℕ) → IsJournal store at
+    → IsSome (before (aside_path at)) → IsSome (after (aside_path at))
+taken_aside store IsOne journals before after aside at is some =
+    subst IsSome (sym (aside_stays IsOne before after aside (aside_path at)
+    (λ one. journal_not_aside store (aside_path at) (journals (aside_path at) one) (at, is, refl))
+    (λ none. let never : false ≡ true = subst IsSome none some in cc))) some
+
 -- ---- what is left aside
 
 aside_by : (old new : VersionSetValue) (n : ℕ) → old.log_number ≤ new.log_number

@@ -30,7 +30,7 @@ use Rattle.leveldb_store.specs.Tables.BuildTable.{TableChoices}
 use Rattle.leveldb_store.specs.Compactions.Compact.{CompactsTables}
 use Rattle.leveldb_store.specs.Logs.Damage.{HasDamagedFile, IsLeftAside}
 use Rattle.leveldb_store.specs.Openings.EndsOpening.{CompactsOpening, EndsOpening, LooksForDamage}
-use Rattle.leveldb_store.specs.Keeping.KeptBytes.{AreKept, LosesNoBytesMeanwhile, NewTablesLoseNothing, TableNumbersAreBelow}
+use Rattle.leveldb_store.specs.Keeping.KeptBytes.{AreKept, IsNotReplaced, LosesNoBytesMeanwhile, NewTablesLoseNothing, TableNumbersAreBelow}
 use Rattle.leveldb_store.specs.Keeping.LoggedEdits.{LogsByScore}
 use Rattle.leveldb_store.specs.Keeping.OpenStore.{IsUnbroken, OpenStoreValue}
 use Rattle.leveldb_store.specs.Keeping.OpenTables.{ClosesObsolete}
@@ -77,7 +77,8 @@ looked_tidies : {E F C : Type 0} (env : Ghosts E F)
     (cmp : List ℕ → List ℕ → Ordering) (value : OpenStoreValue C) (from to : E)
     → KeepsDisk env from to → env.failures from ≤ env.failures to → TidiesUp env cmp value from to
 looked_tidies env cmp value from to keeps later = record {
-  others = λ modelled path. inl (ap (λ (f : Files). f path) (same_files env keeps modelled));
+  run = λ modelled. Run-mono (λ files same path. inl (ap (λ (f : Files). f path) same))
+      (keeps.disk modelled);
   keeps = λ modelled meaning. still_written env cmp value from to to keeps modelled meaning;
   locks = keeps.locks;
   later = later;
@@ -168,7 +169,7 @@ module _ {E F C FP D P : Type 0} (order : CmpGhosts (InternalKeyCmp C)) (env : G
           (no_removal env old.set from at tables (λ modelled. same_files env looked modelled))
           (λ modelled. (looked.disk modelled).time.later)
           (λ modelled bytes. removal_bytes old.set kept_to (files_at env from) (files_at env at)
-          ((looked_tidies env by.format.order kept from at looked later).others modelled) bytes))
+          ((looked_tidies env by.format.order kept from at looked later).run modelled).has bytes))
           compacts)
 
       -- what looking for damage found, once more is done
@@ -195,7 +196,7 @@ module _ {E F C FP D P : Type 0} (order : CmpGhosts (InternalKeyCmp C)) (env : G
 
         none_lost : LosesNoBytesMeanwhile env old.set.store from mid
         none_lost = meanwhile_then env old.set.store
-            (Run-mono (λ now is. loses_none old.set.store (files_at env from) now is)
+            (Run-mono (λ now is. loses_none (IsNotReplaced old.set.store) (files_at env from) now is)
             (looked.disk modelled))
             (keeps (λ again. subst (λ (f : Files). AreKept old.set.store f kept_to) (sym files_same)
             each_kept) modelled (subst (λ (f : Files).
@@ -231,7 +232,7 @@ module _ {E F C FP D P : Type 0} (order : CmpGhosts (InternalKeyCmp C)) (env : G
               (compacted_tidied order env by choices old.set.last_sequence new ok mid to between now
               tidies closes time
               (λ modelled bytes. removal_bytes new.set new.kept_to (files_at env mid) (files_at env to)
-              (tidies.others modelled) bytes));
+              (tidies.run modelled).has bytes));
           by_score = by_score;
           err = err;
           ok = ok;
@@ -277,7 +278,7 @@ module _ {E F C FP D P : Type 0} (order : CmpGhosts (InternalKeyCmp C)) (env : G
       loses_none_then modelled below =
           let same = same_files env looked modelled in
           meanwhile_then env old.set.store
-          (Run-mono (λ now is. loses_none old.set.store (files_at env from) now is)
+          (Run-mono (λ now is. loses_none (IsNotReplaced old.set.store) (files_at env from) now is)
           (looked.disk modelled))
           (loses modelled (subst (λ (f : Files).
           TableNumbersAreBelow old.set.store f old.set.next_file) (sym same) below))

@@ -37,13 +37,13 @@ use Rattle.leveldb_files.specs.Edits.Edit.{Edit, NewFile}
 use Rattle.leveldb_version_set.specs.Sets.VersionSetValue.{AreFileNumbersUsedUp, ManifestState, OpenManifest, VersionSetValue, broken, in_use, unmade, with_number_given}
 use Rattle.leveldb_store.proofs.Logs.FoundLogsLemmas.{lacks_one_more}
 use Rattle.leveldb_store.proofs.Keeping.GivenNumbersLemmas.{given_later}
-use Rattle.leveldb_store.proofs.Openings.OpeningBytesLemmas.{log_bytes, logging_bytes, made_above, made_keys_bytes, made_tables_there}
+use Rattle.leveldb_store.proofs.Openings.OpeningBytesLemmas.{log_bytes, logging_bytes, made_above, made_keys_bytes, made_tables_there, written_below}
 use Rattle.leveldb_store.proofs.Openings.FoundFilesLemmas.{held_entries, made_with_each, still_with_each}
 use Rattle.leveldb_store.proofs.Reading.ViewListsLemmas.{pairwise_of}
 use Rattle.leveldb_store.proofs.Openings.OpeningEndLemmas.{IsOpenValue, edit_logged, log_spared, logged_manifest, logging_keeps, logging_spares, made_levels_fit, went_on}
 use Rattle.leveldb_store.proofs.Openings.OpeningFrontLemmas.{keeps_found_then}
-use Rattle.leveldb_store.proofs.Keeping.KeptBytesLemmas.{loses_at_tables, meanwhile_none, meanwhile_then, numbers_at_tables, numbers_still}
-use Rattle.leveldb_store.proofs.Openings.OpeningKeptLemmas.{logging_loses, loses_at_log, number_is_new, table_numbers_below}
+use Rattle.leveldb_store.proofs.Keeping.KeptBytesLemmas.{loses_at_tables, meanwhile_none, meanwhile_then, numbered_below, numbered_beside, numbers_at_tables, numbers_then, table_numbers_below}
+use Rattle.leveldb_store.proofs.Openings.OpeningKeptLemmas.{logging_loses, logging_numbers, loses_at_log, number_is_new}
 use Rattle.leveldb_store.proofs.Openings.OpeningLogLemmas.{HasLogOpen, IsReplayedWith, log_opened, log_opening_keeps, replayed_recovered, replaying_keeps}
 use Rattle.leveldb_store.proofs.Openings.OpeningRecoverLemmas.{cause_of_step}
 use Rattle.leveldb_store.proofs.Openings.OpeningSameLemmas.{spares_then}
@@ -51,7 +51,8 @@ use Rattle.leveldb_store.proofs.Keeping.TableKeepsLemmas.{is_log_path, is_table_
 use Rattle.leveldb_store.specs.Tables.BuildTable.{TableChoices}
 use Rattle.leveldb_files.specs.Stores.Format.{Agrees, Format, IsTableOf, Meaning}
 use Rattle.leveldb_store.specs.Logs.FoundLogs.{HasLogNotKept, LacksNumbersFor, LogsBeginWith}
-use Rattle.leveldb_store.specs.Keeping.KeptBytes.{HasNewNumbers, LosesNoBytesMeanwhile, TableNumbersAreBelow}
+use Rattle.leveldb_store.specs.Keeping.KeptBytes.{HasNewNumbers, LosesNoBytesMeanwhile}
+use Rattle.leveldb_version_set.specs.Engines.Writing.{NumbersAreBelow}
 use Rattle.leveldb_store.specs.Keeping.OpenStore.{AreInLevels, AreNumbersGiven, HasOwnManifest, OpenStoreValue}
 use Rattle.leveldb_store.specs.Openings.Opening.{SameButTables}
 use Rattle.leveldb_store.specs.Openings.OpeningSteps.{AreDamagedLogs, OpensToWrite, LogsIfWanted, MayBeWritten, OpensLog, ReplaysLogs, WasRecovered, WhyNotBegun, WhyNotReplayed, entries_to_write, files_to_write, made_files, number_to_write, set_to_write, size_to_write, AreLogs, HasReplayedLogs, HoldsLogs}
@@ -352,23 +353,25 @@ module _ {E F D FP : Type 0} (env : Ghosts E F) {order : CmpGhosts D} {filters :
                 (is_log_path store (number_to_write replay.used set2.next_file) opens.number_fits) (is_table_path store file.number has.0) (λ e. cc)))) has.1,
           )) files all
 
-      -- the number of each table is below those that are given then
-      numbers2 : OnOk result (IsTrue env.models_disk → TableNumbersAreBelow store first set.next_file → TableNumbersAreBelow store log_files set3.next_file)
+      -- the number of each file is below those that are given then
+      numbers2 : OnOk result (IsTrue env.models_disk → NumbersAreBelow store first set.next_file → NumbersAreBelow store log_files set3.next_file)
       numbers2 = by result opens.set
         where
-          still : IsTrue env.models_disk → (n : ℕ) → n < 2 ^ 64 → log_files (table_path store n) ≡ replayed_files (table_path store n)
-          still modelled n fits = log_alone replay.used store set2.next_file replayed_files log_files (run2 modelled).has (table_path store n)
-              (types_apart store (log_path store (number_to_write replay.used set2.next_file)) (table_path store n) Log Table
-              (is_log_path store (number_to_write replay.used set2.next_file) opens.number_fits) (is_table_path store n fits) (λ e. cc))
+          number : ℕ
+          number = number_to_write replay.used set2.next_file
 
           by : (r : Result (OpenLog E F × MemTableState C) Status) → OnOk r (set3 ≡ set_to_write replay.used set2)
-              → OnOk r (IsTrue env.models_disk → TableNumbersAreBelow store first set.next_file → TableNumbersAreBelow store log_files set3.next_file)
-          by (Ok pair) is = λ modelled below. numbers_still store replayed_files log_files set1.next_file set3.next_file
-              (let same = ap (λ (s : VersionSetValue). s.next_file) set2_is in
+              → OnOk r (IsTrue env.models_disk → NumbersAreBelow store first set.next_file → NumbersAreBelow store log_files set3.next_file)
+          by (Ok pair) is = λ modelled below.
+              let rises = replays.spares.numbers.rises in
+              let same = ap (λ (s : VersionSetValue). s.next_file) set2_is in
               let more = next_to_write replay.used set2 in
-              let now = ap (λ (s : VersionSetValue). s.next_file) is in omega (arith, same, more, now))
-              (still modelled)
-              (numbers_at_tables store set set1 may.path first replayed_files replays.spares.numbers.rises (replays.spares.run modelled).has below)
+              let now = ap (λ (s : VersionSetValue). s.next_file) is in
+              let less = written_below format set first logs replay set1 replayed_files (replays.ok modelled) (subst (λ s. NumbersAreBelow s first set.next_file) (sym may.path) below) set2 (omega (arith, rises, same)) opens.number_fits in
+              numbers_then store replayed_files log_files set1.next_file set3.next_file (omega (arith, same, more, now))
+              (numbered_beside store (log_path store number) replayed_files log_files (log_alone replay.used store set2.next_file replayed_files log_files (run2 modelled).has) set3.next_file
+              (numbered_below store Log number opens.number_fits set3.next_file (omega (arith, less, now))))
+              (numbers_at_tables store set set1 may.path first replayed_files rises (replays.spares.run modelled).has below)
           by (Err status) is = tt
 
     -- there is no number for a new log
@@ -492,6 +495,22 @@ module _ {E F D FP : Type 0} (env : Ghosts E F) {order : CmpGhosts D} {filters :
                   ∙ numbers.manifest (sym same3.manifest ∙ is)
           loses3 false logged modelled numbers = subst (λ e. LosesNoBytesMeanwhile env store e2 e) (sym logged.1)
               (meanwhile_none env store e2)
+
+          numbers3 : (b : Bool) → LogsIfWanted env b N made set3 e2 result set4 e3 → IsTrue env.models_disk → NumbersAreBelow store (env.observed e2).disk.files set3.next_file
+              → NumbersAreBelow store (env.observed e3).disk.files set3.next_file
+          numbers3 true logged modelled below = subst (λ s. NumbersAreBelow s (env.observed e3).disk.files set3.next_file) path3
+              (logging_numbers env made set3 N e2 e3 set4 modelled given fits3 result logged (subst (λ s. NumbersAreBelow s (env.observed e2).disk.files set3.next_file) (sym path3) below))
+            where
+              given : set3.manifest_number < set3.next_file
+              given =
+                  let was = may.manifest_fits in
+                  let same = same3.number in
+                  let rises = replays.spares.numbers.rises in
+                  let next = ap (λ (s : VersionSetValue). s.next_file) set2_is in
+                  let more = next_to_write replay.used set2 in
+                  let now = ap (λ (s : VersionSetValue). s.next_file) opens.set in
+                  omega (arith, was, same, rises, next, more, now)
+          numbers3 false logged modelled below = subst (λ e. NumbersAreBelow store (env.observed e).disk.files set3.next_file) (sym logged.1) below
 
           all_lose : LogsIfWanted env wanted N made set3 e2 result set4 e3 → IsTrue env.models_disk → HasNewNumbers store set first → LosesNoBytesMeanwhile env store from e3
           all_lose logged modelled numbers =
@@ -777,9 +796,8 @@ module _ {E F D FP : Type 0} (env : Ghosts E F) {order : CmpGhosts D} {filters :
               opens = opened_by wanted refl logged;
               others = all_spare (Ok done) set4 e3 logged locks;
               kept = all_lose (Ok done) set4 e3 logged;
-              numbers = λ modelled below. numbers_still store (env.observed e2).disk.files (env.observed e3).disk.files set3.next_file value.set.next_file
-                  (let same = is_ended.next in let now = ap (λ (s : VersionSetValue). s.next_file) is.set_is in omega (arith, same, now))
-                  (is_ended.same_tables modelled) (numbers2 cmp (Ok pair) set3 e2 opens modelled below);
+              numbers = λ modelled below. subst (λ n. NumbersAreBelow store (env.observed e3).disk.files n) (sym (ap (λ (s : VersionSetValue). s.next_file) is.set_is ∙ is_ended.next))
+                  (numbers3 (Ok done) set4 e3 wanted logged modelled (numbers2 cmp (Ok pair) set3 e2 opens modelled below));
               bytes = all_bytes (Ok done) set4 e3 logged locks;
               locks = all_locks (Ok done) set4 e3 logged locks;
               cause = record { later = omega (arith, none_counted); ok = none_counted; uncounted = tt; cause = tt };

@@ -1,6 +1,6 @@
 -- What is appended to files while a store is opened are bytes.
 use Rattle.std.specs.Prelude.{Contains, IsTrue, IsSome}
-use Rattle.std.proofs.Common.{◌≡◌, inl, inr, ⊎_elim, ℕ, Bool, true, false, List, [], ◌∷◌, Option, None, Some, Result, refl, subst, sym, ◌≤◌}
+use Rattle.std.proofs.Common.{◌≡◌, inl, inr, ⊎_elim, ℕ, Bool, true, false, List, [], ◌∷◌, Option, None, Some, Result, refl, subst, sym, ◌≤◌, ◌<◌, ◌^◌}
 use Rattle.leveldb_base.proofs.EntriesLemmas.{in_map}
 use Rattle.leveldb_base.specs.KeyTypes.{user_part}
 use Rattle.leveldb_base.specs.declared.error.Status.{Status}
@@ -17,14 +17,16 @@ use Rattle.leveldb_version_set.proofs.Sets.LogKeepsLemmas.{framed_are_bytes}
 use Rattle.leveldb_files.specs.Levels.Levels.{LiveTable}
 use Rattle.leveldb_version_set.specs.Sets.LogEdit.{LogEditResult, edit_record}
 use Rattle.leveldb_version_set.specs.Engines.Opening.{tables_edit}
+use Rattle.leveldb_version_set.specs.Engines.Writing.{NumbersAreBelow}
 use Rattle.leveldb_files.specs.Stores.Paths.{log_path}
 use Rattle.leveldb_files.specs.Steps.StoreSteps.{AppendedAreBytes}
 use Rattle.leveldb_files.specs.Edits.Edit.{Edit, NewFile}
 use Rattle.leveldb_version_set.specs.Sets.VersionSetValue.{ManifestState, VersionSetValue, broken, in_use, unmade}
 use Rattle.leveldb_store.proofs.Openings.OpeningEndLemmas.{made_levels_fit}
+use Rattle.leveldb_store.proofs.Openings.OpeningKeptLemmas.{number_given}
 use Rattle.leveldb_store.proofs.Keeping.SoundLemmas.{appending_bytes}
 use Rattle.leveldb_files.specs.Stores.Format.{Agrees, Format, Meaning}
-use Rattle.leveldb_store.specs.Openings.OpeningSteps.{AreBeingKept, HasReplayedLogs, LogsIfWanted, OpensLog, RecoversSet, files_to_write, made_files, with_log_kept, with_logs_kept}
+use Rattle.leveldb_store.specs.Openings.OpeningSteps.{AreBeingKept, HasReplayedLogs, LogsIfWanted, OpensLog, RecoversSet, files_to_write, made_files, number_to_write, set_to_write, with_log_kept, with_logs_kept}
 use Rattle.leveldb_store.specs.Openings.OpensStore.{IsTableThere}
 use Rattle.leveldb_store.proofs.Openings.TableSizesLemmas.{IsSized}
 use Rattle.leveldb_store.specs.Keeping.SoundCall.{BytesAreAppended}
@@ -111,6 +113,19 @@ made_above format old from numbers replay new at replays file c =
     let x = in_map (λ (table : LiveTable). table.file) h.tables file
     (subst (λ files. Contains files file) (sym h.files_are) c) in
     subst (λ (f : NewFile). old.next_file ≤ f.number) x.2 (h.made_tables.numbers x.0 x.1).0
+
+-- and so is that of the log to write, if it is new or was there
+pub written_below : {C : Type 0} (format : Format) (old : VersionSetValue) (from : Files)
+    (numbers : List ℕ) (replay : Replay C) (new : VersionSetValue) (at : Files)
+    → ((meaning : Meaning) → Agrees format meaning
+    → HasReplayedLogs format.order meaning old from numbers replay new at)
+    → NumbersAreBelow old.store from old.next_file → (set : VersionSetValue)
+    → old.next_file ≤ set.next_file → number_to_write replay.used set.next_file < 2 ^ 64
+    → number_to_write replay.used set.next_file < (set_to_write replay.used set).next_file
+written_below format old from numbers replay new at replays below set rises fits =
+    let h = replays (own_meaning format) (own_agrees format) in
+    number_given old.store from replay.used h.logs h.tables h.are_logs.each h.tables_made
+    old.next_file below set rises fits
 
 -- ---- calls
 

@@ -1,12 +1,16 @@
 -- That an opening of a store that is there loses no file and no byte of one.
-use Rattle.std.specs.Prelude.{IsTrue}
-use Rattle.std.proofs.Common.{◌≡◌, ◌≢◌, ◌⊎◌, ◌∙◌, ◌∷◌, ◌≤◌, ◌<◌, ◌^◌, inl, inr, ⊎_elim, ℕ, Bool, List, [], Option, None, Some, Result, ap, arith, refl, subst, sym}
+use Rattle.std.specs.Prelude.{Contains, IsTrue}
+use Rattle.std.specs.Cmp.Lexicographic.{bytes_decides}
+use Rattle.std.specs.Str.{bytes_eq}
+use Rattle.std.proofs.lemmas.List.Elements.{Contains-append_right}
+use Rattle.leveldb_base.proofs.HistoryLemmas.{in_front}
+use Rattle.std.proofs.Common.{◌≡◌, ◌≢◌, ◌⊎◌, ◌∙◌, ◌∷◌, ◌≤◌, ◌<◌, ◌^◌, inl, inr, ⊎_elim, ℕ, Bool, true, false, List, [], Option, None, Some, Result, ap, arith, refl, subst, sym}
 use Rattle.leveldb_base.proofs.NamesLemmas.{made_name}
 use Rattle.leveldb_base.specs.Names.{MayHaveNumber, file_name, file_path}
 use Rattle.leveldb_base.specs.declared.error.Status.{Status}
 use Rattle.leveldb_base.specs.declared.types.FileMetaData.{FileMetaData}
 use Rattle.leveldb_base.specs.declared.types.FileType.{FileType}
-use Rattle.leveldb_base.specs.declared.types.FileType.TheVariants.{Table, Temp}
+use Rattle.leveldb_base.specs.declared.types.FileType.TheVariants.{Current, Descriptor, Log, Table, Temp}
 use Rattle.leveldb_env.proofs.EnvLemmas.{Run-call, Run-mono, SameBut-emptied, bytes_eq-apart}
 use Rattle.leveldb_env.specs.Env.{BeforeOrAfter, File, Files, FilesUnchanged, Run, created, in_folder, synced}
 use Rattle.leveldb_env.specs.declared.env.Env.{Ghosts}
@@ -18,12 +22,14 @@ use Rattle.leveldb_files.specs.Stores.Format.{Format}
 use Rattle.leveldb_version_set.specs.Engines.Opening.{tables_edit}
 use Rattle.leveldb_files.specs.Stores.Paths.{current_path, log_path, manifest_path}
 use Rattle.leveldb_files.specs.Edits.Edit.{Edit}
+use Rattle.leveldb_files.specs.Levels.Levels.{LiveTable}
+use Rattle.leveldb_files.specs.Stores.Store.{HasLog, ReplayedLog}
 use Rattle.leveldb_version_set.specs.Sets.VersionSetValue.{ManifestState, VersionSetValue, broken, in_use, unmade}
-use Rattle.leveldb_version_set.specs.Engines.Writing.{NumbersAreBelow}
-use Rattle.leveldb_store.proofs.Keeping.KeptBytesLemmas.{keeps_still, loses_appending, loses_created, loses_made, loses_new, loses_none, loses_synced, loses_then, meanwhile_none, meanwhile_then}
+use Rattle.leveldb_version_set.specs.Engines.Writing.{IsNumberedUpTo, NumbersAreBelow}
+use Rattle.leveldb_store.proofs.Keeping.KeptBytesLemmas.{keeps_still, loses_appending, loses_created, loses_made, loses_new, loses_none, loses_synced, loses_then, meanwhile_none, meanwhile_then, missing_appending, numbered_below, numbers_then}
 use Rattle.leveldb_store.proofs.Openings.OpeningEndLemmas.{made_levels_fit}
-use Rattle.leveldb_store.specs.Keeping.KeptBytes.{LosesNoBytes, LosesNoBytesMeanwhile, TableNumbersAreBelow}
-use Rattle.leveldb_store.specs.Openings.OpeningSteps.{AreBeingKept, FindsStore, IsBeingMade, LogsTables, RecoversSet, files_to_write, made_files, with_log_kept, with_logs_kept}
+use Rattle.leveldb_store.specs.Keeping.KeptBytes.{IsNotReplaced, LosesNoBytes, LosesNoBytesMeanwhile}
+use Rattle.leveldb_store.specs.Openings.OpeningSteps.{AreBeingKept, AreInTablesBut, FindsStore, IsBeingMade, LogsTables, RecoversSet, files_to_write, made_files, number_to_write, set_to_write, with_log_kept, with_logs_kept}
 use Rattle.leveldb_store.specs.declared.opening.recovered_set.RecoveredSet.{RecoveredSet}
 use Rattle.leveldb_store.specs.declared.opening.replay.UsedLog.{UsedLog}
 
@@ -44,11 +50,26 @@ number_is_new store files next below kind n fits least =
         (λ gone. let never : Some file ≡ None = sym is ∙ gone in cc) in
         absurd (omega (arith, given, least))
 
--- nor does a table
-pub table_numbers_below : (store : List ℕ) (files : Files) (next : ℕ)
-    → NumbersAreBelow store files next → TableNumbersAreBelow store files next
-table_numbers_below store files next below n fits some =
-    below (file_name Table n) n Table (made_name Table n fits) some
+-- and the log to write has a number that was given, if it is new or was there
+pub number_given : {C : Type 0} (store : List ℕ) (files : Files) (used : Option (UsedLog C))
+    (logs : List ReplayedLog) (tables : List LiveTable)
+    → ((log : ReplayedLog) → Contains logs log → HasLog store files log)
+    → AreInTablesBut used logs tables → (next : ℕ) → NumbersAreBelow store files next
+    → (set : VersionSetValue) → next ≤ set.next_file
+    → number_to_write used set.next_file < 2 ^ 64
+    → number_to_write used set.next_file < (set_to_write used set).next_file
+number_given store files None logs tables each held next below set rises fits = omega arith
+number_given store files (Some used) logs tables each held next below set rises fits =
+    let fit : used.number < 2 ^ 64 = fits in
+    let front = held.0 in
+    let last = held.1 in
+    let number : last.number ≡ used.number = held.3 in
+    let has = each last (subst (λ ls. Contains ls last) (sym held.2)
+    (Contains-append_right front (last ∷ []) last (in_front last []))) in
+    let less = below (file_name Log last.number) last.number Log
+    (made_name Log last.number (omega (arith, number, fit)))
+    (λ gone. let never : Some has.0 ≡ None = sym has.1 ∙ gone in cc) in
+    omega (arith, less, number, rises)
 
 module _ (store : List ℕ) where
   abbrev Loses : Files → Files → Type 0
@@ -57,13 +78,14 @@ module _ (store : List ℕ) where
   -- ---- logs
 
   loses_logs : (logs : List ℕ) (old : Files) → Loses old (with_logs_kept store logs old)
-  loses_logs [] old = loses_none store old old refl
+  loses_logs [] old = loses_none (IsNotReplaced store) old old refl
   loses_logs (n ∷ logs) old =
       let path = log_path store n in
-      loses_then store old (with_log_kept store n old)
+      loses_then (IsNotReplaced store) old (with_log_kept store n old)
       (with_logs_kept store logs (with_log_kept store n old))
-      (loses_then store old (created path old) (synced path (created path old))
-      (loses_created store path old) (loses_synced store path (created path old)))
+      (loses_then (IsNotReplaced store) old (created path old) (synced path (created path old))
+      (loses_created (IsNotReplaced store) path old)
+      (loses_synced (IsNotReplaced store) path (created path old)))
       (loses_logs logs (with_log_kept store n old))
 
   pub loses_keeping : (logs : List ℕ) (old now : Files) → AreBeingKept store logs old now
@@ -74,18 +96,19 @@ module _ (store : List ℕ) where
       (λ (is : now ≡ front). subst (Loses old) (sym is) (loses_logs being.front old))
       (λ (made : (n : ℕ) × (more : List ℕ) × (being.rest ≡ n ∷ more)
       × (now ≡ created (log_path store n) front)). subst (Loses old) (sym made.3)
-      (loses_then store old front (created (log_path store made.0) front)
-      (loses_logs being.front old) (loses_created store (log_path store made.0) front))) being.now
+      (loses_then (IsNotReplaced store) old front (created (log_path store made.0) front)
+      (loses_logs being.front old)
+      (loses_created (IsNotReplaced store) (log_path store made.0) front))) being.now
 
   -- the log to write is opened: one that is used on, or a new one
   pub loses_at_log : {C : Type 0} (used : Option (UsedLog C)) (next : ℕ) (old now : Files)
       → old (log_path store next) ≡ None → BeforeOrAfter (files_to_write used store next) old now
       → Loses old now
   loses_at_log None next old now none passes =
-      loses_new store (log_path store next) old now
+      loses_new (IsNotReplaced store) (log_path store next) old now
       (SameBut-emptied (log_path store next) old now passes) none
   loses_at_log (Some used) next old now none passes =
-      loses_made store (log_path store used.number) old now passes
+      loses_made (IsNotReplaced store) (log_path store used.number) old now passes
 
   -- ---- a manifest of a new number
 
@@ -98,6 +121,31 @@ module _ (store : List ℕ) where
       (bytes_eq-apart (temp_path store n) path (λ is.
       kept (inr (file_name Temp n, n, made_name Temp n fits, sym is))))
       (bytes_eq-apart (current_path store) path (λ is. kept (inl (sym is)))) ∙ there)
+
+  numbers_making : (n : ℕ) → n < 2 ^ 64 → (bytes : List ℕ) (old now : Files)
+      → MakingManifest store n bytes old now → (next : ℕ) → n < next
+      → NumbersAreBelow store old next → NumbersAreBelow store now next
+  numbers_making n fits bytes old now making next less =
+      numbers_then store old now next next (omega arith) each
+    where
+      each : (path : List ℕ) → now path ≢ None
+          → (old path ≢ None) ⊎ IsNumberedUpTo store path next
+      each path some = by (bytes_eq (manifest_path store n) path)
+          (bytes_eq (temp_path store n) path) (bytes_eq (current_path store) path) refl refl refl
+        where
+          at : (kind : FileType) (m : ℕ) → MayHaveNumber kind m → m < next
+              → bytes_eq (file_path store kind m) path ≡ true → IsNumberedUpTo store path next
+          at kind m fit under e = subst (λ p. IsNumberedUpTo store p next)
+              ((bytes_decides (file_path store kind m) path).0 e)
+              (numbered_below store kind m fit next under)
+
+          by : (a b c : Bool) → bytes_eq (manifest_path store n) path ≡ a
+              → bytes_eq (temp_path store n) path ≡ b → bytes_eq (current_path store) path ≡ c
+              → (old path ≢ None) ⊎ IsNumberedUpTo store path next
+          by true b c e f g = inr (at Descriptor n fits less e)
+          by false true c e f g = inr (at Temp n fits less f)
+          by false false true e f g = inr (at Current 0 refl (omega (arith, less)) g)
+          by false false false e f g = inl (λ gone. some (making.others path e f g ∙ gone))
 
 -- ---- the edit with which an opening ends
 
@@ -124,13 +172,41 @@ module _ {E F : Type 0} (env : Ghosts E F) (built : List FileMetaData) (set : Ve
           making)
           (Run-call modelled ((logs.not_made (made_levels_fit log built) is).does modelled))
       by (in_use manifest) is = Run-mono
-          (λ now passes. loses_appending set.store manifest.path
+          (λ now passes. loses_appending (IsNotReplaced set.store) manifest.path
           (frame manifest.writer (edit_record set tables)) (env.observed from).disk.files now
           passes)
           (Run-call modelled ((logs.used (made_levels_fit log built) manifest is).does modelled))
       by broken is = Run-mono
-          (λ now same. loses_none set.store (env.observed from).disk.files now same)
+          (λ now same. loses_none (IsNotReplaced set.store) (env.observed from).disk.files now same)
           (logs.broken_before is).2
+
+  -- and no file comes to have a number that wasn't given
+  pub logging_numbers : IsTrue env.models_disk → set.manifest_number < set.next_file
+      → set.manifest_number < 2 ^ 64 → (result : Result (Unit {0}) Status)
+      → LogsTables env log built set from result new to
+      → NumbersAreBelow set.store (env.observed from).disk.files set.next_file
+      → NumbersAreBelow set.store (env.observed to).disk.files set.next_file
+  logging_numbers modelled given fits result (inl none) below =
+      subst (λ e. NumbersAreBelow set.store (env.observed e).disk.files set.next_file)
+      (sym none.2) below
+  logging_numbers modelled given fits result (inr logs) below = by set.manifest refl
+    where
+      by : (state : ManifestState) → set.manifest ≡ state
+          → NumbersAreBelow set.store (env.observed to).disk.files set.next_file
+      by unmade is = numbers_making set.store set.manifest_number fits
+          (manifest_bytes (new_records set tables)) (env.observed from).disk.files
+          (env.observed to).disk.files
+          (((logs.not_made (made_levels_fit log built) is).does modelled).now modelled) set.next_file
+          given below
+      by (in_use manifest) is = numbers_then set.store (env.observed from).disk.files
+          (env.observed to).disk.files set.next_file set.next_file (omega arith)
+          (λ path some. inl (λ gone. some (missing_appending manifest.path
+          (frame manifest.writer (edit_record set tables)) (env.observed from).disk.files
+          (env.observed to).disk.files
+          (((logs.used (made_levels_fit log built) manifest is).does modelled).now modelled) path
+          gone))) below
+      by broken is = subst (λ f. NumbersAreBelow set.store f set.next_file)
+          (sym (logs.broken_before is).2.has) below
 
 -- ---- a store that is found and recovered
 
@@ -157,7 +233,7 @@ module _ {E F : Type 0} (env : Ghosts E F) (store comparator : List ℕ)
       (finds : FindsStore env store comparator create_if_missing error_if_exists from result mid)
     where
       pub finding_loses : LosesUpTo mid
-      finding_loses = Run-mono (λ now same. loses_none store first now same)
+      finding_loses = Run-mono (λ now same. loses_none (IsNotReplaced store) first now same)
           (found_same result mid finds)
 
       -- ---- its set
@@ -173,9 +249,9 @@ module _ {E F : Type 0} (env : Ghosts E F) (store comparator : List ℕ)
                 → BeforeOrAfter (synced (in_folder store (sets.files modelled).manifest))
                 (env.observed mid).disk.files now
                 → LosesNoBytes store (env.observed mid).disk.files now
-            passing now (inl same) = loses_none store (env.observed mid).disk.files now same
+            passing now (inl same) = loses_none (IsNotReplaced store) (env.observed mid).disk.files now same
             passing now (inr sync) = subst (LosesNoBytes store (env.observed mid).disk.files)
-                (sym sync) (loses_synced store (in_folder store (sets.files modelled).manifest)
+                (sym sync) (loses_synced (IsNotReplaced store) (in_folder store (sets.files modelled).manifest)
                 (env.observed mid).disk.files)
 
         -- ---- its logs

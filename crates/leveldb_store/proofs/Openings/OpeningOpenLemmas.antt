@@ -17,7 +17,6 @@ use Rattle.leveldb_store.specs.Tables.BuildTable.{TableChoices}
 use Rattle.leveldb_store.specs.Logs.FoundLogs.{LacksNumbersFor}
 use Rattle.leveldb_files.specs.Stores.Format.{Agrees, Format, Meaning}
 use Rattle.leveldb_store.proofs.Keeping.KeptBytesLemmas.{meanwhile_then}
-use Rattle.leveldb_store.proofs.Openings.OpeningKeptLemmas.{table_numbers_below}
 use Rattle.leveldb_store.specs.Keeping.KeptBytes.{HasNewNumbers, LosesNoBytesMeanwhile, LosesNothing}
 use Rattle.leveldb_store.specs.Keeping.OpenStore.{OpenStoreValue}
 use Rattle.leveldb_store.specs.Openings.OpeningState.{with_comparator}
@@ -152,7 +151,7 @@ module _ {E F D FP : Type 0} (env : Ghosts E F) {keys : CmpGhosts D} {filters : 
         stays = λ modelled which. absurd (recovers.stays modelled which).0;
         others = λ modelled. let run = recovers.others modelled in Run-trans run (λ now spares. spares_then store (env.observed from).disk.files (env.observed mid).disk.files now run.has spares) (begins.others modelled);
         kept = all_lose begins.kept;
-        numbers = λ modelled. begins.numbers modelled (table_numbers_below store (env.observed mid).disk.files it.versions.next_file (recovers.ok.new_numbers modelled).below);
+        numbers = λ modelled. begins.numbers modelled (recovers.ok.new_numbers modelled).below;
         locks = λ modelled. begins.locks modelled ∙ recovers.locks modelled;
       }
       recovered_then (Err status) begins = record {

@@ -47,6 +47,8 @@ use Rattle.leveldb_version_set.specs.Engines.Writing.{IsWrittenBy, table_edit}
 use Rattle.leveldb_version.specs.declared.version_edit.VersionEdit.{VersionEdit}
 use Rattle.leveldb_store.proofs.Keeping.CurrentVersionLemmas.{lower_stay}
 use Rattle.leveldb_store.proofs.Keeping.GivenNumbersLemmas.{given_after, live_given}
+use Rattle.leveldb_store.proofs.Keeping.KeptBytesLemmas.{kept_by_new, loses_appending, spares_kept_none, spares_kept_then}
+use Rattle.leveldb_store.specs.Keeping.KeptBytes.{IsKeptPath, SparesKept}
 use Rattle.leveldb_store.proofs.Keeping.GivenTablesLemmas.{SameGiven, given_same, same_beside, same_beside_new, same_or_gone, same_then}
 use Rattle.leveldb_store.proofs.Keeping.TableKeepsLemmas.{KeepsHistory-refl, KeepsHistory-trans, appending_and_syncing, is_table_path, keeps_logged, keeps_made, shows_done, shows_failed, shows_made, types_apart, w_made, written_done, written_made}
 use Rattle.leveldb_store.proofs.Keeping.SoundLemmas.{edit_goes_on, goes_on_then, sound_unlogged, table_goes_on}
@@ -382,6 +384,7 @@ module _ {E F C D FP : Type 0} {order : CmpGhosts D} {filters : FilterGhosts FP}
     tables = λ modelled number fits given. same_or_gone
         ((env.observed from).disk.files (table_path old.set.store number))
         ((env.observed from).disk.files (table_path old.set.store number)) refl;
+    kept = spares_kept_none old.set old.kept_to (env.observed from);
     locks = λ modelled. refl;
   }
 
@@ -442,6 +445,12 @@ module _ {E F C D FP : Type 0} {order : CmpGhosts D} {filters : FilterGhosts FP}
         (omega (arith, next_fits)) (omega arith) (env.observed from).disk.files
         (env.observed mid).disk.files (m.run modelled).has
 
+    files_kept_made : (result : Result FileMetaData Status) → Makes result
+        → SparesKept env.models_disk old.set old.kept_to (env.observed from) (env.observed mid)
+    files_kept_made result m modelled = Run-mono
+        (kept_by_new old.set old.kept_to Table old.set.next_file (omega (arith, next_fits))
+        (omega arith) (env.observed from).disk.files) (m.run modelled)
+
     -- no table was built
     pub tables_unbuilt : (status : Status) → Makes (Err status)
         → Tables (Err status) (record old { set = given_set }) mid
@@ -465,6 +474,7 @@ module _ {E F C D FP : Type 0} {order : CmpGhosts D} {filters : FilterGhosts FP}
         numbers = omega arith;
         tables = λ modelled. given_same old.set (env.observed from).disk.files
             (env.observed mid).disk.files (same_made (Err status) m modelled);
+        kept = files_kept_made (Err status) m;
         locks = m.locks;
       };
       cause = record {
@@ -523,6 +533,14 @@ module _ {E F C D FP : Type 0} {order : CmpGhosts D} {filters : FilterGhosts FP}
           (env.observed mid).disk.files (env.observed to).disk.files
           (appending_and_syncing manifest.path _ (env.observed mid).disk.files
           (env.observed to).disk.files ((l.does modelled).now modelled)))
+
+      kept_logged : (result : Result (Unit {0}) Status) → Logged result
+          → SparesKept env.models_disk old.set old.kept_to (env.observed from) (env.observed to)
+      kept_logged result l = spares_kept_then old.set old.set refl (omega arith) refl
+          (files_kept_made (Ok file) m)
+          (λ modelled. Run-mono (loses_appending (IsKeptPath old.set old.kept_to) manifest.path
+          (frame manifest.writer (edit_record given_set edit)) (env.observed mid).disk.files)
+          (Run-call modelled (l.does modelled)))
 
       locks_all : SameLocks env.models_disk (env.observed from) (env.observed to)
       locks_all modelled = locks modelled ∙ m.locks modelled
@@ -590,6 +608,7 @@ module _ {E F C D FP : Type 0} {order : CmpGhosts D} {filters : FilterGhosts FP}
           numbers = rises;
           tables = λ modelled. given_same old.set (env.observed from).disk.files
               (env.observed to).disk.files (same_logged (Err status) l modelled);
+          kept = kept_logged (Err status) l;
           locks = locks_all;
         };
         cause = record {
@@ -653,6 +672,7 @@ module _ {E F C D FP : Type 0} {order : CmpGhosts D} {filters : FilterGhosts FP}
           numbers = omega (arith, ap (λ (s : VersionSetValue). s.next_file) l.ok);
           tables = λ modelled. given_same old.set (env.observed from).disk.files
               (env.observed to).disk.files (same_logged (Ok tt) l modelled);
+          kept = kept_logged (Ok tt) l;
           locks = locks_all;
         };
         cause = record {

@@ -8,7 +8,7 @@ use Rattle.leveldb_base.specs.declared.cmp.Cmp.{Ghosts as CmpGhosts}
 use Rattle.leveldb_base.specs.declared.error.Status.{Status}
 use Rattle.leveldb_base.specs.declared.types.FileType.{FileType}
 use Rattle.leveldb_base.specs.declared.types.FileType.TheVariants.{Current, DBLock, Descriptor, InfoLog, Log, Table, Temp}
-use Rattle.leveldb_env.proofs.EnvLemmas.{Run-trans}
+use Rattle.leveldb_env.proofs.EnvLemmas.{Run-mono, Run-trans}
 use Rattle.leveldb_env.specs.Env.{Files, HasCause, Observed, Run}
 use Rattle.leveldb_env.specs.WholeFiles.{IsLost}
 use Rattle.leveldb_env.specs.declared.env.Env.{Ghosts}
@@ -17,6 +17,7 @@ use Rattle.leveldb_mem.specs.MemTable.{Kept}
 use Rattle.leveldb_files.specs.Steps.StoreSteps.{KeepsHistory}
 use Rattle.leveldb_version_set.specs.Sets.VersionSetValue.{AreFileNumbersUsedUp, OpenManifest, VersionSetValue, in_use}
 use Rattle.leveldb_version_set.specs.Engines.Writing.{IsObsolete}
+use Rattle.leveldb_store.proofs.Keeping.KeptBytesLemmas.{kept_by_removal, spares_kept_none, spares_kept_then}
 use Rattle.leveldb_store.proofs.Keeping.GivenTablesLemmas.{given_removed, given_same, given_then}
 use Rattle.leveldb_store.proofs.Keeping.SoundLemmas.{failed_later, failed_once, goes_on_then, never_broken, nothing_goes_on, sound_ok, written_log, written_manifest}
 use Rattle.leveldb_store.proofs.Keeping.TableKeepsLemmas.{KeepsHistory-trans}
@@ -79,6 +80,7 @@ module _ {C : Type 0} {models_disk : Bool} where
     numbers = let least = first.numbers in let more = second.numbers in omega (arith, least, more);
     tables = λ modelled. given_then old.set mid.set first.store first.numbers v0.disk.files
         v1.disk.files v2.disk.files (first.tables modelled) (second.tables modelled);
+    kept = spares_kept_then old.set mid.set first.store first.numbers first.kept_to first.kept second.kept;
     locks = λ modelled. second.locks modelled ∙ first.locks modelled;
   }
 
@@ -140,6 +142,7 @@ module _ {E F C : Type 0} (env : Ghosts E F) (cmp : List ℕ → List ℕ → Or
       numbers = omega arith;
       tables = λ modelled. given_same old.set (env.observed from).disk.files
           (env.observed from).disk.files (λ number fits given. refl);
+      kept = spares_kept_none old.set old.kept_to (env.observed from);
       locks = λ modelled. refl;
     };
     cause = record { later = omega arith; cause = tt };
@@ -159,10 +162,13 @@ module _ {E F C : Type 0} (env : Ghosts E F) (cmp : List ℕ → List ℕ → Or
       last = refl;
       kept_to = refl;
       files = λ modelled. others_stay old.set old.kept_to (env.observed from).disk.files
-          (env.observed to).disk.files (tidied.others modelled);
+          (env.observed to).disk.files (tidied.run modelled).has;
       numbers = omega arith;
       tables = λ modelled. given_removed old.set old.kept_to (env.observed from).disk.files
-          (env.observed to).disk.files (tidied.others modelled);
+          (env.observed to).disk.files (tidied.run modelled).has;
+      kept = λ modelled. Run-mono
+          (kept_by_removal old.set old.kept_to (env.observed from).disk.files)
+          (tidied.run modelled);
       locks = tidied.locks;
     };
     cause = record { later = tidied.later; cause = tt };

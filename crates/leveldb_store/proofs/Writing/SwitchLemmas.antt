@@ -39,6 +39,8 @@ use Rattle.leveldb_version_set.specs.Engines.Writing.{EngineMemory, IsWrittenBy,
 use Rattle.leveldb_version_set.specs.Engines.WritingLaws.{NewLogIsWritten}
 use Rattle.leveldb_files.specs.Stores.Format.{IsTableOf, Meaning}
 use Rattle.leveldb_store.specs.Keeping.OpenStore.{OpenLogValue, OpenStoreValue}
+use Rattle.leveldb_store.proofs.Keeping.KeptBytesLemmas.{kept_by_new, loses_syncing, spares_kept_none, spares_kept_then}
+use Rattle.leveldb_store.specs.Keeping.KeptBytes.{IsKeptPath}
 use Rattle.leveldb_store.proofs.Keeping.GivenTablesLemmas.{given_same}
 use Rattle.leveldb_store.specs.Writing.Switch.{MayGiveNumber, SwitchesLog}
 use Rattle.leveldb_store.specs.Writing.Write.{StaysOrBreaks, SyncsLog, open_log_path, with_writer}
@@ -326,6 +328,7 @@ module _ {E F C : Type 0} (env : Ghosts E F) (old : OpenStoreValue C) (from : E)
     numbers = left_by_sync (λ (v : OpenStoreValue C). old.set.next_file ≤ v.set.next_file) (λ writer. omega arith) result new to sync;
     tables = λ modelled. given_same old.set (env.observed from).disk.files (env.observed to).disk.files (λ number fits given. tables_same old.set.store old.log.number (env.observed from).disk.files (env.observed to).disk.files
         (SameBut-synced (open_log_path old) (env.observed from).disk.files (env.observed to).disk.files ((sync.does modelled).now modelled)) number);
+    kept = λ modelled. Run-mono (loses_syncing (IsKeptPath old.set old.kept_to) (open_log_path old) (env.observed from).disk.files) (Run-call modelled (sync.does modelled));
     locks = sync.locks;
   }
 
@@ -337,7 +340,7 @@ module _ {E F C : Type 0} (env : Ghosts E F) (old : OpenStoreValue C) (from : E)
 
   -- what spares the rest after a number was given spares it before
   abbrev pub spares_before : {models_disk : Bool} {at : Observed} {new : OpenStoreValue C} {to : Observed} → SparesRest models_disk next at new to → SparesRest models_disk old at new to
-  spares_before rest = record {
+  spares_before {at = at} rest = record {
     store = rest.store;
     cmp = rest.cmp;
     last = rest.last;
@@ -345,6 +348,7 @@ module _ {E F C : Type 0} (env : Ghosts E F) (old : OpenStoreValue C) (from : E)
     files = rest.files;
     numbers = let least = rest.numbers in omega (arith, least);
     tables = λ modelled number fits given. rest.tables modelled number fits (omega (arith, given));
+    kept = spares_kept_then old.set (with_number_given old.set) refl (omega arith) refl (spares_kept_none old.set old.kept_to at) rest.kept;
     locks = rest.locks;
   }
 
@@ -395,6 +399,9 @@ module _ {E F C : Type 0} (env : Ghosts E F) (old : OpenStoreValue C) (from : E)
           ∙ rest.files modelled path other;
       numbers = omega (arith, ap (λ (v : VersionSetValue). v.next_file) set);
       tables = λ modelled. given_same old.set (env.observed from).disk.files (env.observed to).disk.files (λ number fits given. same_tables modelled number);
+      kept = spares_kept_then old.set old.set refl (omega arith) refl (spares_before rest).kept (λ modelled. Run-mono
+          (λ now passes. kept_by_new old.set old.kept_to Log old.set.next_file (omega (arith, more)) (omega arith) (env.observed mid).disk.files now
+          (SameBut-emptied (log_path old.set.store old.set.next_file) (env.observed mid).disk.files now passes)) (Run-call modelled opening));
       locks = λ modelled. locks modelled ∙ rest.locks modelled;
     }
 

@@ -5,14 +5,16 @@ use Rattle.std.specs.declared.cmp.Ordering.{Ordering}
 use Rattle.leveldb_base.specs.Error.{IsOutOfMemory}
 use Rattle.leveldb_base.specs.History.{Item}
 use Rattle.leveldb_base.specs.declared.error.Status.{Status}
-use Rattle.leveldb_env.proofs.EnvLemmas.{SameBut-refl}
-use Rattle.leveldb_env.specs.Env.{AreBytes, SameBut}
+use Rattle.leveldb_env.proofs.EnvLemmas.{Run-mono, SameBut-refl, begun}
+use Rattle.leveldb_env.specs.Env.{AreBytes, Run, SameBut}
 use Rattle.leveldb_env.specs.declared.env.Env.{Ghosts}
 use Rattle.leveldb_mem.specs.Log.Writer.{WriterState, after_frame}
 use Rattle.leveldb_mem.specs.MemTable.{IsUnion, Kept}
 use Rattle.leveldb_mem.specs.WriteBatch.{Batch, BatchOf, batch_bytes, batch_of}
 use Rattle.leveldb_store.proofs.Writing.BatchHistoryLemmas.{after_batch, batch_added, pending_leaves, room_leaves}
+use Rattle.leveldb_store.proofs.Keeping.KeptBytesLemmas.{loses_appending, loses_none}
 use Rattle.leveldb_store.proofs.Keeping.TableKeepsLemmas.{appending_and_syncing}
+use Rattle.leveldb_store.specs.Keeping.KeptBytes.{LosesNoBytesAt}
 use Rattle.leveldb_store.specs.Keeping.OpenStore.{IsUnbroken, OpenStoreValue}
 use Rattle.leveldb_store.specs.Writing.Write.{CanBeInserted, HasNumbers, InsertsBatch, IsLogLost, LogsText, PreparesBatch, open_log_path, with_mem, with_writer}
 use Rattle.leveldb_store.specs.Writing.WriteBatch.{FailsToWriteBatch, IsNotBegun, WritesBatch, next_batch}
@@ -44,6 +46,8 @@ module _ {E F C : Type 0} (env : Ghosts E F) (cmp : List ℕ → List ℕ → Or
     err = (same, refl);
     rest = refl;
     others = λ modelled. SameBut-refl (open_log_path old) (env.observed from).disk.files;
+    bytes = λ modelled. begun (env.observed from) (loses_none (λ path. Unit {0})
+        (env.observed from).disk.files (env.observed from).disk.files refl);
     locks = λ modelled. refl;
     usable = tt;
     breaks = inl (why, refl);
@@ -66,6 +70,11 @@ module _ {E F C : Type 0} (env : Ghosts E F) (cmp : List ℕ → List ℕ → Or
             (env.observed from).disk.files (env.observed to).disk.files
         others_stay modelled = appending_and_syncing (open_log_path old) _
             (env.observed from).disk.files (env.observed to).disk.files (logs.run modelled).has
+
+        bytes_stay : IsTrue env.models_disk → Run (LosesNoBytesAt (λ path. Unit {0})
+            (env.observed from).disk.files) (env.observed from) (env.observed to)
+        bytes_stay modelled = Run-mono (loses_appending (λ path. Unit {0}) (open_log_path old) _
+            (env.observed from).disk.files) (logs.run modelled)
 
         uncounted : (status : Status) → (IsLogLost env old from to status
             → env.failures to ≡ env.failures from) → FailsToWriteBatch env cmp old from items to status
@@ -102,6 +111,7 @@ module _ {E F C : Type 0} (env : Ghosts E F) (cmp : List ℕ → List ℕ → Or
             err = (same, refl);
             rest = refl;
             others = others_stay (Err status) then to logs;
+            bytes = bytes_stay (Err status) then to logs;
             locks = logs.locks;
             usable = tt;
             breaks = inr is;
@@ -129,6 +139,7 @@ module _ {E F C : Type 0} (env : Ghosts E F) (cmp : List ℕ → List ℕ → Or
         err = tt;
         rest = refl;
         others = others_stay (Ok tt) then to logs;
+        bytes = bytes_stay (Ok tt) then to logs;
         locks = logs.locks;
         usable = record { manifest = unbroken.manifest; log = unbroken.log };
         breaks = tt;

@@ -121,7 +121,8 @@ module _ {C FP : Type 0} {order : CmpGhosts C} {filters : FilterGhosts FP}
 
   -- The files are tables of what is left of pairs that were read, those of the walk's list if it
   -- bears new tables, and the cuts were asked before each of these: each table goes on up to the
-  -- limit or a stop, and no further than the user key there. No contract of a compaction cites this.
+  -- limit or a stop, and no further than the user key there. No contract of a compaction cites
+  -- this.
   pub record CutsInto {T W : Type 0} (walk : WalkGhosts W E T) (start : E × T) (it : W)
       (next : ℕ) (files : List FileMetaData) (to : E) (now : X) : Type 0 where
     pub read : List Pair

@@ -1,9 +1,9 @@
 -- Which bytes of a store's files a call keeps, whatever the files are.
-use Rattle.std.specs.Prelude.{◌≡◌, ◌≢◌, ◌≤◌, ◌<◌, ◌^◌, ◌++◌, ◌⊎◌, ℕ, List, Option, None, Some, IsTrue}
+use Rattle.std.specs.Prelude.{◌≡◌, ◌≢◌, ◌≤◌, ◌<◌, ◌^◌, ◌++◌, ◌⊎◌, ℕ, Bool, List, Option, None, Some, IsTrue}
 use Rattle.leveldb_base.specs.Names.{IsFileName}
 use Rattle.leveldb_base.specs.declared.types.FileType.{FileType}
 use Rattle.leveldb_base.specs.declared.types.FileType.TheVariants.{Temp}
-use Rattle.leveldb_env.specs.Env.{File, Files, Run, bytes_of, in_folder}
+use Rattle.leveldb_env.specs.Env.{File, Files, Observed, Run, bytes_of, in_folder}
 use Rattle.leveldb_env.specs.declared.env.Env.{Ghosts}
 use Rattle.leveldb_files.specs.Stores.Paths.{IsFilePath, current_path, manifest_path, table_path}
 use Rattle.leveldb_version_set.specs.Sets.VersionSetValue.{VersionSetValue, unmade}
@@ -22,14 +22,18 @@ KeepsItsBytes before None = ⊥
 KeepsItsBytes before (Some after) =
     BeginWith (bytes_of before) (bytes_of after) × BeginWith before.kept after.kept
 
--- a path of a file that an opening replaces: `CURRENT`, by way of a temporary file
-abbrev pub IsReplacedPath : List ℕ → List ℕ → Type 0
-IsReplacedPath store path = (path ≡ current_path store) ⊎ IsFilePath Temp store path
+-- no file at one of these paths is lost, and none loses a byte
+abbrev pub LosesNoBytesAt : (List ℕ → Type 0) → Files → Files → Type 0
+LosesNoBytesAt IsOne before after = (path : List ℕ) → IsOne path → (file : File)
+    → before path ≡ Some file → KeepsItsBytes file (after path)
+
+-- a path of a file that an opening doesn't replace, as it does `CURRENT` by way of a temporary file
+abbrev pub IsNotReplaced : List ℕ → List ℕ → Type 0
+IsNotReplaced store path = ((path ≡ current_path store) ⊎ IsFilePath Temp store path) → ⊥
 
 -- no file is lost, and none loses a byte, but for those that are replaced
 abbrev pub LosesNoBytes : List ℕ → Files → Files → Type 0
-LosesNoBytes store before after = (path : List ℕ) → (IsReplacedPath store path → ⊥)
-    → (file : File) → before path ≡ Some file → KeepsItsBytes file (after path)
+LosesNoBytes store = LosesNoBytesAt (IsNotReplaced store)
 
 -- ---- numbers
 
@@ -54,6 +58,17 @@ IsKept (Some last) n = n ≤ last
 abbrev pub AreKept : List ℕ → Files → Option ℕ → Type 0
 AreKept store files kept_to = (name : List ℕ) (n : ℕ) (kind : FileType) → IsFileName name n kind
     → files (in_folder store name) ≢ None → IsKept kept_to n
+
+-- a path of a file that such a store keeps, and whose number the set gave or passed over
+abbrev pub IsKeptPath : VersionSetValue → Option ℕ → List ℕ → Type 0
+IsKeptPath set kept_to path = (name : List ℕ) × (n : ℕ) × (kind : FileType)
+    × IsFileName name n kind × (n < set.next_file) × IsKept kept_to n
+    × (path ≡ in_folder set.store name)
+
+-- no such file loses a byte, now and at each moment on the way
+abbrev pub SparesKept : Bool → VersionSetValue → Option ℕ → Observed → Observed → Type 0
+SparesKept models_disk set kept_to from to = IsTrue models_disk
+    → Run (LosesNoBytesAt (IsKeptPath set kept_to) from.disk.files) from to
 
 -- a file of the folder has this number
 abbrev pub HasNumberThere : List ℕ → Files → ℕ → Type 0

@@ -1,6 +1,6 @@
 -- Logs and manifests that are set aside: each gets a name that is none of a store's, so that no
 -- opening reads it.
-use Rattle.std.specs.Prelude.{◌≡◌, ◌⊎◌, ◌++◌, ℕ, List, [], ◌∷◌, Contains, None, Result, IsSome, IsTrue, OnOk, codes}
+use Rattle.std.specs.Prelude.{◌≡◌, ◌⊎◌, ◌≤◌, ◌+◌, ◌-◌, ◌^◌, ◌++◌, ℕ, Bool, List, [], ◌∷◌, Contains, None, Result, IsSome, IsTrue, OnOk, codes, length}
 use Rattle.leveldb_base.specs.Error.{IsOutOfMemory}
 use Rattle.leveldb_base.specs.declared.error.Status.{Status}
 use Rattle.leveldb_base.specs.declared.error.StatusCode.TheVariants.{AlreadyExists, NotFound}
@@ -8,6 +8,7 @@ use Rattle.leveldb_env.specs.Env.{Files, Run, SameLocks, renamed}
 use Rattle.leveldb_env.specs.declared.env.Env.{Ghosts}
 use Rattle.leveldb_files.specs.Stores.Paths.{IsJournal}
 use Rattle.leveldb_store.specs.Writing.Room.{FailsFor}
+use Rattle.leveldb_store.specs.Writing.Switch.{IsMemoryOut}
 
 -- ---- files
 
@@ -34,10 +35,12 @@ pub record AreSetAside (IsOne : List ℕ → Type 0) (before after : Files) : Ty
 
 -- ---- calls
 
--- out of memory, a file has the other name, or none has its own
-abbrev pub IsNotSetAside : Status → Type 0
-IsNotSetAside status = IsOutOfMemory status ⊎ (status.code ≡ AlreadyExists)
-    ⊎ (status.code ≡ NotFound)
+-- why the file of a path isn't set aside: out of memory; or of these files, if the disk is modelled,
+-- one has the other name, or none has its own
+abbrev pub IsNotSetAside : Bool → List ℕ → Files → Status → Type 0
+IsNotSetAside models_disk path files status = IsOutOfMemory status
+    ⊎ ((status.code ≡ AlreadyExists) × (IsTrue models_disk → IsSome (files (aside_path path))))
+    ⊎ ((status.code ≡ NotFound) × (IsTrue models_disk → files path ≡ None))
 
 -- The file of a path was set aside, or the call failed.
 pub record SetsOneAside {E F : Type 0} (env : Ghosts E F) (path : List ℕ) (from : E)
@@ -50,7 +53,19 @@ pub record SetsOneAside {E F : Type 0} (env : Ghosts E F) (path : List ℕ) (fro
   pub files : OnOk result (IsTrue env.models_disk → (env.observed to).disk.files
       ≡ renamed path (aside_path path) (env.observed from).disk.files)
   pub locks : SameLocks env.models_disk (env.observed from) (env.observed to)
-  pub cause : FailsFor IsNotSetAside (env.failures from) (env.failures to) result
+  pub cause : FailsFor (IsNotSetAside env.models_disk path (env.observed to).disk.files)
+      (env.failures from) (env.failures to) result
+
+-- Of the files that are one of these, those that have their own name still couldn't be set aside: a
+-- file has the other name, or a call failed for them. For each of these a failure was counted,
+-- unless the count is at its greatest.
+pub record LeavesUnmoved {E F : Type 0} (env : Ghosts E F) (IsOne : List ℕ → Type 0) (from to : E)
+    : Type 0 where
+  pub failed : List (List ℕ)
+  pub left : (path : List ℕ) → IsOne path → IsSome ((env.observed to).disk.files path)
+      → IsSome ((env.observed to).disk.files (aside_path path)) ⊎ Contains failed path
+  pub counted : (env.failures from + length failed ≤ env.failures to)
+      ⊎ (2 ^ 64 - 1 ≤ env.failures to)
 
 -- Files that are one of these were set aside, or some of them after an Err.
 pub record SetsAside {E F : Type 0} (env : Ghosts E F) (IsOne : List ℕ → Type 0) (from : E)
@@ -62,5 +77,9 @@ pub record SetsAside {E F : Type 0} (env : Ghosts E F) (IsOne : List ℕ → Typ
   -- Ok: none has its own name any more
   pub all : OnOk result (IsTrue env.models_disk → (path : List ℕ) → IsOne path
       → (env.observed to).disk.files path ≡ None)
+  -- one that can't be stops no other, unless memory is out
+  pub left : IsMemoryOut result ⊎ (IsTrue env.models_disk → LeavesUnmoved env IsOne from to)
   pub locks : SameLocks env.models_disk (env.observed from) (env.observed to)
-  pub cause : FailsFor IsNotSetAside (env.failures from) (env.failures to) result
+  pub cause : FailsFor (λ status. (path : List ℕ) × IsOne path
+      × IsNotSetAside env.models_disk path (env.observed to).disk.files status)
+      (env.failures from) (env.failures to) result

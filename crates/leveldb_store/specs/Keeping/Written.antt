@@ -18,6 +18,7 @@ use Rattle.leveldb_version.specs.Tables.TableCache.{IsSameOrGone}
 use Rattle.leveldb_files.specs.Edits.Edit.{Edit, NewFile}
 use Rattle.leveldb_version_set.specs.Sets.VersionSetValue.{VersionSetValue}
 use Rattle.leveldb_version_set.specs.Engines.Writing.{EngineMemory, IsWrittenBy, ShowsHistory}
+use Rattle.leveldb_store.specs.Keeping.KeptBytes.{SparesKept}
 use Rattle.leveldb_store.specs.Keeping.OpenStore.{IsUnbroken, OpenStoreValue}
 
 -- ---- memory
@@ -117,6 +118,7 @@ KeepsGivenTables set before after = (number : ℕ) → number < 2 ^ 64 → numbe
 -- What a call leaves alone that adds no batch: the store's path, its order, its last number and
 -- which files it keeps; all files but logs, tables, manifests and temporary files of the store;
 -- and all locks. Numbers that were given stay so, and their tables keep their bytes or are gone.
+-- Whatever the files are, none that is kept loses a byte, at any moment.
 pub record SparesRest {C : Type 0} (models_disk : Bool) (old : OpenStoreValue C) (from : Observed)
     (new : OpenStoreValue C) (to : Observed) : Type 0 where
   pub store : new.set.store ≡ old.set.store
@@ -127,4 +129,5 @@ pub record SparesRest {C : Type 0} (models_disk : Bool) (old : OpenStoreValue C)
       → to.disk.files path ≡ from.disk.files path
   pub numbers : old.set.next_file ≤ new.set.next_file
   pub tables : IsTrue models_disk → KeepsGivenTables old.set from.disk.files to.disk.files
+  pub kept : SparesKept models_disk old.set old.kept_to from to
   pub locks : SameLocks models_disk from to

@@ -1,9 +1,8 @@
 -- What the end of an opening leaves of an open store: one compaction is done at most, obsolete
 -- files are deleted, and damaged ones are set aside.
-use Rattle.std.specs.Prelude.{◌≡◌, ◌≢◌, ◌≤◌, ◌<◌, ◌⊎◌, ◌↔◌, ℕ, List, Contains, Option, None, Result, IfOk, IfSome, IsTrue, OnErr, OnOk}
+use Rattle.std.specs.Prelude.{◌≡◌, ◌≢◌, ◌≤◌, ◌<◌, ◌⊎◌, ℕ, List, Contains, Option, None, Result, IfSome, IsTrue, OnErr, OnOk}
 use Rattle.leveldb_base.specs.declared.cmp.Cmp.{Ghosts as CmpGhosts}
 use Rattle.leveldb_base.specs.declared.cmp.internal.InternalKeyCmp.{InternalKeyCmp}
-use Rattle.leveldb_base.specs.Error.{IsOutOfMemory}
 use Rattle.leveldb_base.specs.declared.error.Status.{Status}
 use Rattle.leveldb_base.specs.declared.types.FileType.{FileType}
 use Rattle.leveldb_env.specs.Env.{IsEmptyFolder, in_folder}
@@ -16,40 +15,13 @@ use Rattle.leveldb_version_set.specs.Engines.Writing.{NumbersAreBelow}
 use Rattle.leveldb_version_set.specs.Sets.VersionSetValue.{VersionSetValue}
 use Rattle.leveldb_store.specs.Tables.BuildTable.{TableChoices}
 use Rattle.leveldb_store.specs.Compactions.Compact.{CompactsTables}
-use Rattle.leveldb_store.specs.Logs.Damage.{HasDamagedFile, IsDamagedFile, IsDamagedPath, IsLeftAside, IsPathIfDamaged}
+use Rattle.leveldb_store.specs.Logs.Damage.{HasDamagedFile, IsDamagedPath, IsLeftAside}
 use Rattle.leveldb_store.specs.Keeping.KeptBytes.{AreKept, HasNumberThere, NewTablesLoseNothing}
 use Rattle.leveldb_store.specs.Keeping.LoggedEdits.{LogsByScore}
 use Rattle.leveldb_store.specs.Keeping.OpenStore.{IsUnbroken, OpenStoreValue}
 use Rattle.leveldb_store.specs.Keeping.SetAside.{SetsAside}
 use Rattle.leveldb_store.specs.Writing.Room.{FailsFor}
 use Rattle.leveldb_store.specs.Keeping.SoundCall.{BreaksForCause}
-
--- out of memory, or there is no file of this name
-abbrev pub IsFileLost : {E F : Type 0} → Ghosts E F → VersionSetValue → E → List ℕ → Status → Type 0
-IsFileLost env set from name status = IsOutOfMemory status
-    ⊎ (IsMissingFile (in_folder set.store name) status × (IsTrue env.models_disk
-    → (env.observed from).disk.files (in_folder set.store name) ≡ None))
-
--- What looking at the file of a name returns: its path, if it is damaged. An Err says that memory
--- was out, the file isn't there, or the device failed.
-pub record LooksAtName {E F X : Type 0} (env : Ghosts E F) (set : VersionSetValue) (from : E)
-    (name : List ℕ) (path_of : X → Option (List ℕ)) (result : Result X Status) (to : E)
-    : Type 0 where
-  pub damaged : IfOk result (λ found. IsTrue env.models_disk
-      → IsPathIfDamaged set (env.observed from).disk.files name (path_of found))
-  pub cause : FailsFor (IsFileLost env set from name) (env.failures from) (env.failures to) result
-
--- The same for the files of these names: the paths of those that are damaged.
-pub record LooksAtNames {E F X : Type 0} (env : Ghosts E F) (set : VersionSetValue) (from : E)
-    (names : List (List ℕ)) (paths_of : X → List (List ℕ)) (result : Result X Status) (to : E)
-    : Type 0 where
-  pub damaged : IfOk result (λ found. IsTrue env.models_disk → (path : List ℕ)
-      → Contains (paths_of found) path ↔ ((name : List ℕ) × Contains names name
-      × IsDamagedFile set (env.observed from).disk.files name
-      × (path ≡ in_folder set.store name)))
-  pub cause : FailsFor
-      (λ status. (name : List ℕ) × Contains names name × IsFileLost env set from name status)
-      (env.failures from) (env.failures to) result
 
 -- What looking for damage finds in the logs and manifests that are left aside, and which files are
 -- kept from then on.

@@ -39,7 +39,7 @@ use Rattle.leveldb_version_set.specs.Engines.Writing.{NumbersAreBelow}
 use Rattle.leveldb_store.specs.Tables.BuildTable.{TableChoices}
 use Rattle.leveldb_files.specs.Stores.Format.{Agrees, Format, IsTableOf, Meaning}
 use Rattle.leveldb_store.specs.Openings.Listing.{AreNamesIn}
-use Rattle.leveldb_store.specs.Keeping.KeptBytes.{HasNewNumbers, LosesNoBytesMeanwhile, LosesNothing, TableNumbersAreBelow}
+use Rattle.leveldb_store.specs.Keeping.KeptBytes.{HasNewNumbers, LosesNoBytesMeanwhile, LosesNothing}
 use Rattle.leveldb_store.specs.Keeping.OpenStore.{AreInLevels, AreNumbersGiven, HasOwnManifest, IsUnbroken, OpenStoreValue}
 use Rattle.leveldb_store.specs.Openings.Opening.{AreMadeTables, GivesNumbers, SameButTables}
 use Rattle.leveldb_store.specs.Openings.OpeningState.{HasComparator, IsRecoveredWith, with_comparator}
@@ -729,10 +729,10 @@ module _ {E F D FP : Type 0} (env : Ghosts E F) {order : CmpGhosts D} {filters :
     -- where the numbers that are given are new, no byte is lost
     pub kept : IsTrue env.models_disk → HasNewNumbers store set (env.observed from).disk.files
         → LosesNoBytesMeanwhile env store from to
-    -- and no table has one that is given then
+    -- and no file has one that is given then
     pub numbers : IfOk result (λ value. IsTrue env.models_disk
-        → TableNumbersAreBelow store (env.observed from).disk.files set.next_file
-        → TableNumbersAreBelow store (env.observed to).disk.files value.set.next_file)
+        → NumbersAreBelow store (env.observed from).disk.files set.next_file
+        → NumbersAreBelow store (env.observed to).disk.files value.set.next_file)
     pub bytes : BytesAreAppended env from to
     pub locks : SameLocks env.models_disk (env.observed from) (env.observed to)
     pub cause : HasCauseOr WhyNotBegun (env.failures from) (env.failures to) result

@@ -24,11 +24,12 @@ use Rattle.leveldb_files.specs.Stores.Store.{HasEdits, IsStore}
 use Rattle.leveldb_files.specs.Steps.StoreSteps.{AppendedAreBytes, KeepsHistory}
 use Rattle.leveldb_files.specs.Edits.Edit.{Edit, NewFile}
 use Rattle.leveldb_files.specs.Edits.VersionSet.{FileSet, live_after}
+use Rattle.leveldb_version_set.specs.Engines.Writing.{NumbersAreBelow}
 use Rattle.leveldb_version_set.specs.Sets.VersionSetValue.{OpenManifest, VersionSetValue, in_use}
 use Rattle.leveldb_store.specs.Tables.BuildTable.{TableChoices}
 use Rattle.leveldb_store.specs.Logs.FoundLogs.{HasLogNotKept, LogsBeginWith}
 use Rattle.leveldb_files.specs.Stores.Format.{Agrees, Format, IsTableOf, Meaning}
-use Rattle.leveldb_store.specs.Keeping.KeptBytes.{LosesNothing, TableNumbersAreBelow}
+use Rattle.leveldb_store.specs.Keeping.KeptBytes.{LosesNothing}
 use Rattle.leveldb_store.specs.Keeping.OpenStore.{IsUnbroken, OpenStoreValue}
 use Rattle.leveldb_store.specs.Openings.FoundFiles.{HoldsFoundLogs, IsEachLive}
 use Rattle.leveldb_store.specs.Writing.Room.{IsFull}
@@ -279,9 +280,9 @@ module _ {E F : Type 0} (env : Ghosts E F) (store : List ℕ) (format : Format)
         (env.observed to)
     -- whatever the files are, no file of a store that is there loses a byte, but for `CURRENT`
     pub kept : LosesNothing env store from to
-    -- and no table has a number that is given from now on
+    -- and no file has a number that is given from now on
     pub numbers : IfOk result (λ value. IsTrue env.models_disk
-        → TableNumbersAreBelow store (env.observed to).disk.files value.set.next_file)
+        → NumbersAreBelow store (env.observed to).disk.files value.set.next_file)
     pub locks : SameLocks env.models_disk (env.observed from) (env.observed to)
 
 module _ {E F D FP : Type 0} (env : Ghosts E F) (store : List ℕ) {keys : CmpGhosts D}

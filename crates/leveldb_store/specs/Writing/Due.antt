@@ -1,16 +1,17 @@
--- When a write whose memtable has room does a compaction first: once for each part by which the
--- memtable grows, if a level scores 1 or more.
+-- When a write whose memtable has room does a compaction first: once for each part of a table by
+-- which the memtable grows, if a level scores 1 or more.
 use Rattle.std.specs.Prelude.{◌≡◌, ◌+◌, ◌/◌, ◌^◌, ◌&&◌, ◌||◌, if◌then◌else◌, ℕ, Bool, is_none, is_some, max, nat_le, nat_lt}
 use Rattle.leveldb_mem.specs.MemTable.{Kept, memory_of_entries}
 use Rattle.leveldb_version.specs.Versions.Scores.{level_by_score}
 use Rattle.leveldb_store.specs.Keeping.OpenStore.{OpenStoreValue}
 use Rattle.leveldb_store.specs.Writing.Room.{IsFull}
 
--- a part of a memtable: a quarter of the bytes of a table, and 64 KiB at least
+-- a part of a table: a quarter of its bytes, and 64 KiB at least
 abbrev pub part_of : ℕ → ℕ
 part_of max_file_size = max (max_file_size / 4) (2 ^ 16)
 
--- the memtable has grown by a part since it took `looked_at` bytes; or it takes less, and is another
+-- the memtable has grown by a part since it took `looked_at` bytes; or it takes less, and is
+-- another
 abbrev pub has_grown : ℕ → ℕ → Kept → Bool
 has_grown max_file_size looked_at kept = nat_lt (memory_of_entries kept.entries) looked_at
     || nat_le (looked_at + part_of max_file_size) (memory_of_entries kept.entries)

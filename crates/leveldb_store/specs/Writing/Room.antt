@@ -8,7 +8,7 @@ use Rattle.leveldb_base.specs.History.{Entry}
 use Rattle.leveldb_base.specs.declared.cmp.Cmp.{Ghosts as CmpGhosts}
 use Rattle.leveldb_base.specs.declared.error.Status.{Status}
 use Rattle.leveldb_base.specs.declared.error.StatusCode.TheVariants.{Corruption}
-use Rattle.leveldb_env.specs.Env.{SameLocks}
+use Rattle.leveldb_env.specs.Env.{Run, SameLocks}
 use Rattle.leveldb_env.specs.Options.{Boxed, OptionsOf}
 use Rattle.leveldb_env.specs.declared.env.Env.{Ghosts}
 use Rattle.leveldb_env.specs.declared.filter.FilterPolicy.{Ghosts as FilterGhosts}
@@ -112,9 +112,9 @@ module _ {E F C : Type 0} (env : Ghosts E F) (cmp : List ℕ → List ℕ → Or
 
   -- What a deletion of obsolete files keeps, whatever it returns.
   pub record TidiesUp (to : E) : Type 0 where
-    pub others : IsTrue env.models_disk
-        → RemovesNoOther old.set old.kept_to (env.observed from).disk.files
-        (env.observed to).disk.files
+    pub run : IsTrue env.models_disk
+        → Run (RemovesNoOther old.set old.kept_to (env.observed from).disk.files)
+        (env.observed from) (env.observed to)
     pub keeps : IsTrue env.models_disk → (meaning : Meaning)
         → KeepsWritten cmp meaning old (env.observed from) old (env.observed to)
     pub locks : SameLocks env.models_disk (env.observed from) (env.observed to)

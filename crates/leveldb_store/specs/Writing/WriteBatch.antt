@@ -10,6 +10,7 @@ use Rattle.leveldb_files.specs.Stores.Contents.{Store}
 use Rattle.leveldb_files.specs.Histories.Holds.{Holds, IsSafe}
 use Rattle.leveldb_files.specs.Stores.Store.{IsStore}
 use Rattle.leveldb_files.specs.Stores.Format.{IsTableOf, Meaning}
+use Rattle.leveldb_store.specs.Keeping.KeptBytes.{LosesNoBytesAt}
 use Rattle.leveldb_store.specs.Keeping.OpenStore.{IsUnbroken, OpenStoreValue}
 use Rattle.leveldb_store.specs.Writing.Write.{AreNumbersUsedUp, HasNumbers, IsLogLost, open_log_path}
 use Rattle.leveldb_store.specs.Keeping.Written.{IsWritten, KeepsShown}
@@ -137,6 +138,9 @@ module _ {E F C : Type 0} (env : Ghosts E F) (cmp : List ℕ → List ℕ → Or
       }
       pub others : IsTrue env.models_disk → SameBut (open_log_path old)
           (env.observed from).disk.files (env.observed to).disk.files
+      -- and no file loses a byte, now and at each moment on the way
+      pub bytes : IsTrue env.models_disk → Run (LosesNoBytesAt (λ path. Unit {0})
+          (env.observed from).disk.files) (env.observed from) (env.observed to)
       pub locks : SameLocks env.models_disk (env.observed from) (env.observed to)
       pub usable : OnOk result (IsUnbroken new)
       -- after an Err either no call was made, for a cause, or the log is broken

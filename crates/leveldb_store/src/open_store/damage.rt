@@ -5,7 +5,8 @@ ghost use Rattle.leveldb_base.specs.Names.{IsFileName};
 ghost use Rattle.leveldb_table.specs.TableBlock.{KeepsDisk};
 ghost use Rattle.leveldb_files.specs.Stores.Paths.{log_path};
 ghost use Rattle.leveldb_store.specs.Logs.Damage.{IsLeftAside};
-ghost use Rattle.leveldb_store.specs.Openings.EndsOpening.{LooksAtName, LooksAtNames, LooksForDamage};
+ghost use Rattle.leveldb_store.specs.Openings.DamageSteps.{LooksAtName, LooksAtNames};
+ghost use Rattle.leveldb_store.specs.Openings.EndsOpening.{LooksForDamage};
 ghost use Rattle.leveldb_store.specs.Logs.LogReplay.{EndsCleanly};
 
 use super::OpenStore;

@@ -133,7 +133,7 @@ impl<E: Env, C: UserCmp + Copy + Drop> OpenStore<E, C> {
 }
 
 // The first error of two calls in a row, but `OutOfMemory` before any other.
-fn first_error(first: Result<()>, next: Result<()>) -> Result<()>
+pub(super) fn first_error(first: Result<()>, next: Result<()>) -> Result<()>
     ensures { IsFirstError first next result }
 {
     match next {

@@ -23,7 +23,7 @@ use leveldb_env::log;
 use leveldb_env::options::Options;
 use leveldb_version::table_cache::TableCache;
 
-// The least that a part of a memtable is.
+// The least that a part of a table is.
 const SMALLEST_PART: usize = 1 << 16;
 
 impl<E: Env, C: UserCmp + Copy> OpenStore<E, C> {

@@ -110,7 +110,7 @@ returns-clause-tables g c =
           (entries_of_table g.E.Env _ old from _ (Ok tt) mid at made.tables made.added)
           (entries_tidied g.E.Env _ (order mid.cmp) mid at to c.tidy_up.ensures.tidies);
       none_new = steps_add_none g.E.Env _ (order old.cmp) old mid mid from at to tables_made made.none_new
-          (λ modelled meaning agrees w. adds_none_removed (order old.cmp) meaning mid (files_at g.E.Env at) (files_at g.E.Env to) w (c.tidy_up.ensures.tidies.others modelled));
+          (λ modelled meaning agrees w. adds_none_removed (order old.cmp) meaning mid (files_at g.E.Env at) (files_at g.E.Env to) w (c.tidy_up.ensures.tidies.run modelled).has);
       logs = one_table made.tables.logged;
       closes = closes_after g.E.Env old.set mid.set made.tables.rest.store made.tables.rest.numbers made.tables.tables c.tidy_up.ensures.closes;
     }

@@ -1,8 +1,8 @@
 use Rattle.std.proofs.Common.{map, take}
-use Rattle.std.specs.Prelude.{string_bytes}
-use Rattle.leveldb_store.proofs.Keeping.SetAsideCallLemmas.{SettingAside}
+use Rattle.std.specs.Prelude.{Contains, string_bytes}
+use Rattle.leveldb_store.specs.Keeping.SetAside.{SetsAside}
 use Rattle.leveldb_store.proofs.open_store.OpenStore.set_aside.Given as goal
 
--- the first ones were set aside
+-- of the first ones those were set aside that could be
 abbrev pub invariant-loop-path : goal.invariant-loop-path
-invariant-loop-path g l = SettingAside g.E.Env (map string_bytes l.paths) l.fn.env (take l.path-index (map string_bytes l.paths)) l.env
+invariant-loop-path g l = SetsAside g.E.Env (Contains (take l.path-index (map string_bytes l.paths))) l.fn.env l.first l.env

@@ -5,7 +5,7 @@ use Rattle.std.proofs.lemmas.List.{length-map, map-append, take_all}
 use Rattle.std.proofs.lemmas.Result.{err_from_is_err_and}
 use Rattle.leveldb_base.proofs.HistoryLemmas.{in_front}
 use Rattle.leveldb_table.proofs.TableBlockLemmas.{KeepsDisk-refl, KeepsDisk-trans, same_files}
-use Rattle.leveldb_store.specs.Openings.EndsOpening.{LooksAtName}
+use Rattle.leveldb_store.specs.Openings.DamageSteps.{LooksAtName}
 use Rattle.leveldb_store.proofs.Keeping.DamageLemmas.{AreAmong, among_more, among_none, looks_up_to}
 use Rattle.leveldb_store.proofs.Keeping.RemoveLemmas.{in_rest_of, next_item}
 use Rattle.leveldb_store.proofs.open_store.OpenStore.tell_damage.Goals as goal

@@ -2,6 +2,7 @@ use Rattle.std.proofs.Common.{◌≡◌, ◌∙◌, ⊎_elim, inl, inr, arith, f
 use Rattle.std.specs.Prelude.{IsSome}
 use Rattle.std.proofs.lemmas.Result.{err_from_is_err_and}
 use Rattle.leveldb_env.proofs.EnvLemmas.{Run-call, begun}
+use Rattle.leveldb_env.specs.Env.{Files}
 use Rattle.leveldb_store.proofs.Keeping.SetAsideCallLemmas.{none_of, one_not_aside, one_renamed}
 use Rattle.leveldb_store.proofs.Keeping.SoundLemmas.{failed_once}
 use Rattle.leveldb_store.specs.Keeping.SetAside.{aside_path}
@@ -23,7 +24,14 @@ pub returns-then-branch : goal.returns-then-branch
 returns-then-branch g c =
     let p = err_from_is_err_and c.err.result c.err.ensures.code in
     let looked = c.exists.ensures in
-    rw p.1 (one_not_aside g.E.Env c.args.path.now c.args.env.now c.exists.new.self (λ modelled. Run-call modelled looked.does) looked.locks p.0 looked.cause.later (inl (inr (inl p.2))))
+    let here = (g.E.Env.observed c.args.env.now).disk.files in
+    let is_other : c.deref.result.now ≡ aside_path c.args.path.now = search rules in
+    rw p.1 (one_not_aside g.E.Env c.args.path.now c.args.env.now c.exists.new.self (λ modelled. Run-call modelled looked.does) looked.locks p.0 looked.cause.later
+    (inl (inr (inl (
+      p.2,
+      λ modelled. subst (λ (f : Files). IsSome (f (aside_path c.args.path.now))) (sym (Run-call modelled looked.does).has)
+          (subst (λ o. IsSome (here o)) is_other ((c.in_ok-exists.ensures.ok modelled).0 c.if-branch.true)),
+    )))))
 
 pub returns : goal.returns
 returns g c =
