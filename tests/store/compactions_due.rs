@@ -1,11 +1,12 @@
 //! Compactions that a write does which finds room in its memtable: one each time that the memtable has grown by a part, where the score of a
 //! level asks for it.
 use super::stores::{
-    DefaultEngine, DefaultOptions, STORE, buffered, count_tables, one_byte, opened,
+    DefaultEngine, DefaultOptions, STORE, buffered, count_tables, fail_in_turn, left_at, one_byte,
+    opened,
 };
 use leveldb_base::cmp::DefaultCmp;
 use leveldb_base::error::{Result, StatusCode};
-use leveldb_disks::mem_env::{Pick, RecordEnv};
+use leveldb_disks::mem_env::RecordEnv;
 use leveldb_env::env::Env;
 use leveldb_env::options::Options;
 use rusty_leveldb::Snapshot;
@@ -234,16 +235,7 @@ pub fn crash_in_puts(rt: &impl Abort, alloc: Global, every: u64) -> Result<()> {
     for moment in before..=after {
         if moment % every == 0 {
             for whole in [false, true] {
-                let tails = if whole {
-                    trial.env.tails(alloc, moment, true)?
-                } else {
-                    Vec::new(alloc)
-                };
-                let pick = Pick {
-                    tails,
-                    after: whole,
-                };
-                let left = trial.env.disk_at(alloc, moment, &pick)?;
+                let left = left_at(alloc, &trial.env, moment, whole)?;
                 assert!(rt; reopens(alloc, left)?, "moment {moment} {whole}");
             }
         }
@@ -295,18 +287,7 @@ pub fn fail_in_puts(
     every: u64,
     done: bool,
 ) -> Result<(usize, usize)> {
-    let mut refused = 0;
-    let mut through = 0;
-    let mut nth = 1 + u64::from(done) % every;
-    while let Some(is_ok) = put_failing_at(rt, alloc, nth, done)? {
-        if is_ok {
-            through += 1;
-        } else {
-            refused += 1;
-        }
-        nth += every;
-    }
-    Ok((refused, through))
+    fail_in_turn(every, done, |nth| put_failing_at(rt, alloc, nth, done))
 }
 
 #[test]

@@ -1,8 +1,10 @@
 //! The compaction that an opening does at its end, where the score of a level asks for one.
-use super::stores::{DefaultOptions, STORE, buffered, count_tables, one_byte, opened, reusing};
+use super::stores::{
+    DefaultOptions, STORE, buffered, count_tables, fail_in_turn, left_at, one_byte, opened, reusing,
+};
 use leveldb_base::cmp::DefaultCmp;
 use leveldb_base::error::{Result, StatusCode};
-use leveldb_disks::mem_env::{Pick, RecordEnv};
+use leveldb_disks::mem_env::RecordEnv;
 use leveldb_env::env::Env;
 use leveldb_env::options::Options;
 use slow_store::read_store;
@@ -123,18 +125,7 @@ pub fn fail_in_openings(
     every: u64,
     done: bool,
 ) -> Result<(usize, usize)> {
-    let mut refused = 0;
-    let mut goes_on = 0;
-    let mut nth = 1 + u64::from(done) % every;
-    while let Some(is_ok) = opened_at(rt, alloc, nth, done)? {
-        if is_ok {
-            goes_on += 1;
-        } else {
-            refused += 1;
-        }
-        nth += every;
-    }
-    Ok((refused, goes_on))
+    fail_in_turn(every, done, |nth| opened_at(rt, alloc, nth, done))
 }
 
 /// One of three calls of the device fails. Where the manifest's append or sync fails, the opening
@@ -157,16 +148,7 @@ fn crash_at(
     moment: u64,
     whole: bool,
 ) -> Result<()> {
-    let tails = if whole {
-        env.tails(alloc, moment, true)?
-    } else {
-        Vec::new(alloc)
-    };
-    let pick = Pick {
-        tails,
-        after: whole,
-    };
-    let mut left = env.disk_at(alloc, moment, &pick)?;
+    let mut left = left_at(alloc, env, moment, whole)?;
     assert!(rt; is_whole(alloc, &mut left)?, "moment {moment} {whole}");
     let byte = byte_in(alloc, &mut left)?;
     assert!(rt; byte == b'6' || byte == b'5', "moment {moment} {whole}");

@@ -1,6 +1,6 @@
 //! Openings of files whose bytes were changed: which lines the sink gets, and which files stay.
 use super::stores::{
-    DefaultOptions, STORE, buffered, has_files, map_of, opened, put_all, reopen, reusing,
+    DefaultOptions, STORE, buffered, has_bytes, has_files, map_of, opened, put_all, reopen, reusing,
 };
 use leveldb_base::crc::{crc32, mask_crc};
 use leveldb_base::error::Result;
@@ -12,7 +12,7 @@ use leveldb_store::damage::{LeftOut, left_out};
 use rusty_leveldb::repair;
 use std::alloc::Global;
 use std::process::Abort;
-use support::{Lines, change_byte, damage_file, file_bytes, lose_manifest, put_file};
+use support::{Lines, change_byte, damage_file, file_bytes, files_on, lose_manifest, put_file};
 
 /// How many lines an opening with these options gives, and how many of them are this one.
 fn opened_with_lines(
@@ -120,6 +120,43 @@ fn a_name_that_is_taken(rt: HostRuntime) -> Result<()> {
     Ok(())
 }
 
+/// Of two damaged files one has its other name taken, whichever comes first in the folder: the
+/// other one is set aside nonetheless.
+#[test]
+fn one_name_of_two_that_is_taken(rt: HostRuntime) -> Result<()> {
+    let alloc = rt.alloc();
+    for (taken, other) in [
+        ("000006.log", "MANIFEST-000001"),
+        ("MANIFEST-000001", "000006.log"),
+    ] {
+        let mut env = with_two_tables(alloc)?;
+        put_all(
+            alloc,
+            &mut env,
+            Options::default(),
+            &[("d", "4"), ("e", "5")],
+        )?;
+        damage_file(alloc, &mut env, "000006.log", 30)?;
+        damage_file(alloc, &mut env, "MANIFEST-000001", 53)?;
+        let aside = format!(in alloc; "{taken}.damaged")?;
+        put_file(alloc, &mut env, &aside, b"another")?;
+        let left = file_bytes(alloc, &mut env, taken)?;
+        let moved = file_bytes(alloc, &mut env, other)?;
+        reopen(alloc, &mut env, Options::default())?;
+        let now = file_bytes(alloc, &mut env, taken)?;
+        assert!(rt; now.as_slice() == left.as_slice(), "{taken}");
+        assert!(rt;
+            file_bytes(alloc, &mut env, &aside)?.as_slice() == b"another".as_slice(),
+            "{taken}"
+        );
+        let other_aside = format!(in alloc; "{other}.damaged")?;
+        let now = file_bytes(alloc, &mut env, &other_aside)?;
+        assert!(rt; now.as_slice() == moved.as_slice(), "{other}");
+        assert!(rt; !are_there(alloc, &mut env, &[other])?, "{other}");
+    }
+    Ok(())
+}
+
 /// Twenty runs after one log with changed bytes leave no more files than the second one did, and
 /// the log has its bytes still, under its other name. A repair passes it over.
 #[test]
@@ -166,22 +203,23 @@ fn writes_after_a_manifest_with_a_changed_byte(rt: HostRuntime) -> Result<()> {
     Ok(())
 }
 
-/// So it is where the store is compacted: what was there at the opening stays in the folder, and
-/// the tables that compactions took which came later don't.
+/// So it is where the store is compacted: what was there at the opening stays in the folder with
+/// its bytes, and the tables that compactions took which came later don't.
 #[test]
 fn compactions_after_a_manifest_with_a_changed_byte(rt: HostRuntime) -> Result<()> {
     let alloc = rt.alloc();
     let mut env = with_two_tables(alloc)?;
     damage_file(alloc, &mut env, "MANIFEST-000001", 53)?;
     let mut engine = opened(alloc, &mut env, Options::default())?;
-    let names = env.children(alloc, STORE)?;
+    let files = files_on(alloc, &mut env)?;
     let mut counts = Vec::new(alloc);
     for round in 0..20 {
         engine.put(&mut env, b"d", &[round])?;
         engine.compact_range(&mut env, b"", b"")?;
-        for name in &names {
-            assert!(rt; are_there(alloc, &mut env, &[name.as_str()])?, "{name}");
-        }
+        assert!(rt;
+            has_bytes(alloc, &mut env, files.as_slice())?,
+            "round {round}"
+        );
         counts.push(env.children(alloc, STORE)?.len())?;
     }
     // A call compacts a level deeper than the one before it, down to the last one: so there are one

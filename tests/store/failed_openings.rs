@@ -1,11 +1,11 @@
 //! What is left of a store's files where its opening fails: each of them, with all its bytes.
-use super::stores::{STORE, buffered, opened, reusing};
+use super::stores::{buffered, has_bytes, left_at, opened, reusing};
 use leveldb_base::error::Result;
 use leveldb_disks::mem_env::{Pick, RecordEnv};
 use leveldb_env::env::Env;
 use std::alloc::Global;
 use std::process::Abort;
-use support::{File, damage_file, file_bytes, files_on};
+use support::{File, damage_file, files_on};
 
 /// A disk with a store of one key, of five tables and a log, all of whose bytes a crash keeps. An
 /// opening makes a table of the log and compacts level 0.
@@ -16,9 +16,7 @@ fn with_five_tables(alloc: Global) -> Result<RecordEnv> {
         engine.put(&mut env, b"a", &[b'1' + value])?;
     }
     engine.abandon(&mut env)?;
-    let moment = env.moment();
-    let tails = env.tails(alloc, moment, true)?;
-    env.disk_at(alloc, moment, &Pick { tails, after: true })
+    left_at(alloc, &env, env.moment(), true)
 }
 
 /// The files of the store with their bytes, but `CURRENT` and temporary ones.
@@ -26,20 +24,6 @@ fn files_in(alloc: Global, env: &mut RecordEnv) -> Result<Vec<File>> {
     let mut files = files_on(alloc, env)?;
     files.retain(|(name, _)| name.as_str() != "CURRENT" && !name.as_str().ends_with(".dbtmp"));
     Ok(files)
-}
-
-/// Whether each of these files is there and begins with its bytes.
-fn has_all(alloc: Global, env: &mut RecordEnv, files: &[File]) -> Result<bool> {
-    for (name, bytes) in files {
-        let path = format!(in alloc; "{STORE}/{name}")?;
-        if !env.exists(&path)? {
-            return Ok(false);
-        }
-        if !file_bytes(alloc, env, name)?.starts_with(bytes.as_slice()) {
-            return Ok(false);
-        }
-    }
-    Ok(true)
 }
 
 /// Opens this disk where the nth call fails, done or not. Where the opening fails, a crash at each
@@ -69,7 +53,7 @@ fn opened_at(
             };
             let mut left = env.disk_at(alloc, moment, &pick)?;
             assert!(rt;
-                has_all(alloc, &mut left, files.as_slice())?,
+                has_bytes(alloc, &mut left, files.as_slice())?,
                 "call {nth} {done} at {moment}"
             );
         }

@@ -3,6 +3,7 @@ use bytes::Bytes;
 use leveldb_base::cmp::DefaultCmp;
 use leveldb_base::error::Result;
 use leveldb_base::types::SequenceNumber;
+use leveldb_disks::mem_env::{Pick, RecordEnv};
 use leveldb_env::env::Env;
 use leveldb_env::filter::BloomPolicy;
 use leveldb_env::mem_env::MemEnv;
@@ -14,7 +15,7 @@ use rusty_leveldb::db_impl::Engine;
 use slow_history::Entry;
 use slow_store::read_store;
 use std::alloc::Global;
-use support::{file_bytes, put_file};
+use support::{File, file_bytes, put_file};
 
 /// The path of the store.
 pub const STORE: &str = "db";
@@ -80,6 +81,57 @@ pub fn put_all<E: Env>(
         engine.put(env, key.as_bytes(), value.as_bytes())?;
     }
     engine.abandon(env)
+}
+
+/// What a crash at this moment leaves: all bytes, or those alone that a crash keeps; of a call that
+/// begins then, what it did or what was there before.
+pub fn left_at(alloc: Global, env: &RecordEnv, moment: u64, whole: bool) -> Result<RecordEnv> {
+    let tails = if whole {
+        env.tails(alloc, moment, true)?
+    } else {
+        Vec::new(alloc)
+    };
+    let pick = Pick {
+        tails,
+        after: whole,
+    };
+    env.disk_at(alloc, moment, &pick)
+}
+
+/// Makes a trial for one of `every` calls of the device, which fails then, done or not. A trial
+/// says whether what it tries is Ok, or none where that makes fewer calls. Returns how many were
+/// refused, and how many were Ok.
+pub fn fail_in_turn<F: Fn(u64) -> Result<Option<bool>>>(
+    every: u64,
+    done: bool,
+    trial: F,
+) -> Result<(usize, usize)> {
+    let mut refused = 0;
+    let mut through = 0;
+    let mut nth = 1 + u64::from(done) % every;
+    while let Some(is_ok) = trial(nth)? {
+        if is_ok {
+            through += 1;
+        } else {
+            refused += 1;
+        }
+        nth += every;
+    }
+    Ok((refused, through))
+}
+
+/// Whether each of these files is there and begins with its bytes.
+pub fn has_bytes<E: Env>(alloc: Global, env: &mut E, files: &[File]) -> Result<bool> {
+    for (name, bytes) in files {
+        let path = format!(in alloc; "{STORE}/{name}")?;
+        if !env.exists(&path)? {
+            return Ok(false);
+        }
+        if !file_bytes(alloc, env, name)?.starts_with(bytes.as_slice()) {
+            return Ok(false);
+        }
+    }
+    Ok(true)
 }
 
 /// A batch of these changes.
