@@ -2,7 +2,7 @@
 use Rattle.std.specs.Prelude.{Result, codes, if◌then◌else◌, is_ok, replicate}
 use Rattle.std.specs.Fmt.{decimal}
 use Rattle.std.specs.Option.{option_map}
-use Rattle.std.proofs.Common.{◌≡◌, ◌≢◌, ◌-◌, ◌++◌, ◌⊎◌, ◌∙◌, ⊎_elim, inl, inr, ℕ, zero, Bool, false, List, length, length-append, refl, sym, ap, subst, arith, Option, Ok, Err, IsTrue}
+use Rattle.std.proofs.Common.{◌≡◌, ◌≢◌, ◌-◌, ◌++◌, ◌⊎◌, ◌≤◌, ◌∙◌, ⊎_elim, inl, inr, ℕ, zero, Bool, false, List, length, length-append, refl, sym, ap, subst, arith, Option, Ok, Err, IsTrue}
 use Rattle.std.proofs.lemmas.List.{length-replicate}
 use Rattle.leveldb_base.specs.Error.{IsOutOfMemory}
 use Rattle.leveldb_base.specs.History.{Item}
@@ -10,18 +10,20 @@ use Rattle.leveldb_base.specs.Names.{six_digits}
 use Rattle.leveldb_base.specs.declared.error.Status.{Status}
 use Rattle.leveldb_base.specs.declared.types.FileType.{FileType}
 use Rattle.leveldb_base.specs.declared.types.FileType.TheVariants.{Log}
-use Rattle.leveldb_env.specs.Env.{ChangesFiles, ChangesLocks, Files, FilesUnchanged, SameBut, bytes_of, lock_set, same}
+use Rattle.leveldb_env.specs.Env.{ChangesFiles, ChangesLocks, Files, FilesUnchanged, Run, SameBut, bytes_of, lock_set, same}
 use Rattle.leveldb_env.specs.Options.{Boxed, OptionsOf}
 use Rattle.leveldb_env.specs.declared.env.Env.{Ghosts}
 use Rattle.leveldb_env.specs.declared.filter.FilterPolicy.{Ghosts as FilterGhosts}
-use Rattle.leveldb_env.proofs.EnvLemmas.{SameBut-synced, bytes_eq-apart}
+use Rattle.leveldb_env.proofs.EnvLemmas.{Run-call, Run-mono, SameBut-synced, bytes_eq-apart}
 use Rattle.leveldb_mem.specs.Log.Writer.{broken_writer}
 use Rattle.leveldb_table.specs.TableBlock.{KeepsDisk}
 use Rattle.leveldb_files.specs.Stores.Paths.{lock_path, log_path}
 use Rattle.leveldb_store.specs.Tables.BuildTable.{TableChoices}
 use Rattle.leveldb_version.specs.declared.table_cache.TableCache.{TableCache}
 use Rattle.leveldb_store.proofs.Keeping.GivenTablesLemmas.{given_same, given_then}
+use Rattle.leveldb_store.proofs.Keeping.KeptBytesLemmas.{loses_none, loses_syncing, spares_kept_none, spares_kept_then}
 use Rattle.leveldb_store.proofs.Writing.SwitchLemmas.{tables_same}
+use Rattle.leveldb_store.specs.Keeping.KeptBytes.{IsKeptPath, SparesKept}
 use Rattle.leveldb_store.specs.Keeping.OpenStore.{OpenStoreValue}
 use Rattle.leveldb_store.specs.Writing.Write.{SyncsLog, open_log_path, with_writer}
 use Rattle.leveldb_store.specs.Writing.WriteBatch.{WritesBatch}
@@ -107,6 +109,15 @@ module _ {E C FP F : Type 0} {B : Boxed} (env : Ghosts E F)
     bytes_where_still modelled = bytes_same (env.observed from).disk.files
         (env.observed to).disk.files (still modelled)
 
+  pub kept_where_still : (to : E)
+      → (IsTrue env.models_disk → Run (FilesUnchanged (env.observed from).disk.files)
+      (env.observed from) (env.observed to))
+      → SparesKept env.models_disk before.store.set before.store.kept_to (env.observed from)
+      (env.observed to)
+  kept_where_still to still modelled = Run-mono
+      (loses_none (IsKeptPath before.store.set before.store.kept_to)
+      (env.observed from).disk.files) (still modelled)
+
   -- ---- calls that leave all files
 
   -- nothing has changed
@@ -124,6 +135,8 @@ module _ {E C FP F : Type 0} {B : Boxed} (env : Ghosts E F)
         subst (λ r. IsLockLeft request r (holds_lock env before from) (holds_lock env before from))
         (sym fails.1) (tt, refl)) why;
     tables = tables_where_still from (λ modelled. refl);
+    kept = spares_kept_none before.store.set before.store.kept_to (env.observed from);
+    stay_kept = (omega arith, refl);
     bytes = λ modelled syncs. bytes_where_still from (λ modelled. refl) modelled;
   }
 
@@ -143,6 +156,11 @@ module _ {E C FP F : Type 0} {B : Boxed} (env : Ghosts E F)
         (holds_lock env before to)
         (ap (λ (l : List ℕ → Bool). l before.lock) (keeps.locks modelled)) refl;
     tables = tables_where_still to (λ modelled. (keeps.disk modelled).has);
+    kept = kept_where_still to keeps.disk;
+    stay_kept = (
+      (let least = ap (λ (v : OpenStoreValue C). v.set.next_file) same in omega (arith, least)),
+      ap (λ (v : OpenStoreValue C). v.kept_to) same,
+    );
     bytes = λ modelled syncs. absurd syncs;
   }
 
@@ -232,6 +250,21 @@ module _ {E C FP F : Type 0} {B : Boxed} (env : Ghosts E F)
             (env.observed mid).disk.files done)
             ((syncs.does modelled).now modelled)
 
+        sync_kept : SparesKept env.models_disk before.store.set before.store.kept_to
+            (env.observed from) (env.observed mid)
+        sync_kept modelled = Run-mono
+            (loses_syncing (IsKeptPath before.store.set before.store.kept_to)
+            (open_log_path before.store) (env.observed from).disk.files)
+            (Run-call modelled (syncs.does modelled))
+
+        sync_stay_kept : (before.store.set.next_file ≤ value.set.next_file)
+            × (value.kept_to ≡ before.store.kept_to)
+        sync_stay_kept = (
+          (let same = ap (λ (v : OpenStoreValue C). v.set.next_file) (sync_only synced syncs) in
+              omega (arith, same)),
+          ap (λ (v : OpenStoreValue C). v.kept_to) (sync_only synced syncs),
+        )
+
         -- after the sync no file changes
         sync_spares : (request : Request)
             → ((kind : FileType) → Touches open_mode request kind → IsData kind)
@@ -269,6 +302,8 @@ module _ {E C FP F : Type 0} {B : Boxed} (env : Ghosts E F)
               subst (λ r. IsLockLeft request r (holds_lock env before from)
               (holds_lock env before mid)) (sym fails.1) (tt, stays)) why;
           tables = λ modelled. tables_beside before.store.log.number mid (sync_but modelled);
+          kept = sync_kept;
+          stay_kept = sync_stay_kept;
           bytes = λ modelled syncing. sync_bytes modelled;
         }
 
@@ -295,6 +330,11 @@ module _ {E C FP F : Type 0} {B : Boxed} (env : Ghosts E F)
               (λ path. ap (λ (l : List ℕ → Bool). l path) (syncs.locks modelled))
               (relocks modelled));
           tables = λ modelled. tables_beside before.store.log.number to (given_but modelled);
+          kept = spares_kept_then before.store.set before.store.set refl (omega arith) refl
+              sync_kept (λ modelled. Run-mono
+              (loses_none (IsKeptPath before.store.set before.store.kept_to)
+              (env.observed mid).disk.files) (Run-call modelled does));
+          stay_kept = sync_stay_kept;
           bytes = λ modelled syncing path. ap (λ (f : Files). option_map bytes_of (f path))
               (does.now modelled) ∙ sync_bytes modelled path;
         }
@@ -326,6 +366,8 @@ module _ {E C FP F : Type 0} {B : Boxed} (env : Ghosts E F)
           (ap (λ (l : List ℕ → Bool). l before.lock) (rest.locks modelled))
           (left (holds_lock env before from));
       tables = rest.tables;
+      kept = rest.kept;
+      stay_kept = (rest.numbers, rest.kept_to);
       bytes = λ modelled syncs. absurd (syncs_not syncs);
     }
 
@@ -381,5 +423,14 @@ module _ {E C FP F : Type 0} {B : Boxed} (env : Ghosts E F)
               (env.observed to).disk.files (λ number fits given. tables_same roomy.store.set.store
               roomy.store.log.number (env.observed mid).disk.files (env.observed to).disk.files
               (writes.others modelled) number));
+          kept = spares_kept_then before.store.set roomy.store.set made.makes.keeps.rest.store made.makes.keeps.rest.numbers
+              made.makes.keeps.rest.kept_to made.makes.keeps.rest.kept
+              (λ modelled. Run-mono (λ now loses path one. loses path tt) (writes.bytes modelled));
+          stay_kept = (
+            (let numbers = made.makes.keeps.rest.numbers in
+                let same = ap (λ (v : OpenStoreValue C). v.set.next_file) writes.rest in
+                omega (arith, numbers, same)),
+            ap (λ (v : OpenStoreValue C). v.kept_to) writes.rest ∙ made.makes.keeps.rest.kept_to,
+          );
           bytes = λ modelled syncs. absurd syncs;
         }

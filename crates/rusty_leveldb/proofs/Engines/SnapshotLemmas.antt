@@ -215,6 +215,8 @@ module _ {E C FP F P : Type 0} {B : Boxed} {keys : InternalOrder C} {key_filters
         others = rest.others;
         lock = rest.lock;
         tables = rest.tables;
+        kept = rest.kept;
+        stay_kept = rest.stay_kept;
         bytes = rest.bytes;
       }
   rest_held (release_snapshot one) is result snapshots at =
@@ -224,6 +226,8 @@ module _ {E C FP F P : Type 0} {B : Boxed} {keys : InternalOrder C} {key_filters
         others = rest.others;
         lock = rest.lock;
         tables = rest.tables;
+        kept = rest.kept;
+        stay_kept = rest.stay_kept;
         bytes = rest.bytes;
       }
   rest_held request is result snapshots at = absurd is

@@ -21,7 +21,7 @@ use Rattle.leveldb_store.specs.Tables.BuildTable.{TableChoices}
 use Rattle.leveldb_files.specs.Stores.Format.{Agrees, Format, HasCompressorError, Meaning}
 use Rattle.leveldb_store.proofs.Keeping.KeptBytesLemmas.{loses_made, loses_none, meanwhile_then}
 use Rattle.leveldb_store.specs.Logs.FoundLogs.{HasLogNotKept}
-use Rattle.leveldb_store.specs.Keeping.KeptBytes.{LosesNothing}
+use Rattle.leveldb_store.specs.Keeping.KeptBytes.{IsNotReplaced, LosesNothing}
 use Rattle.leveldb_store.specs.Keeping.OpenStore.{OpenStoreValue}
 use Rattle.leveldb_store.specs.Openings.OpensStore.{FailsToOpen, HasOtherComparator, LacksUsableEdits, WhyNotOpenable}
 use Rattle.leveldb_store.specs.Writing.Room.{FailsFor, HasFailed}
@@ -385,12 +385,12 @@ module _ {E C FP F P : Type 0} {B : Boxed} {keys : InternalOrder C} {key_filters
   nothing_lost : LosesNothing env store from to
   nothing_lost modelled there = meanwhile_then env store
       (Run-mono
-      (λ now made. loses_made store (lock_path store) (env.observed from).disk.files now made)
+      (λ now made. loses_made (IsNotReplaced store) (lock_path store) (env.observed from).disk.files now made)
       (took modelled).run)
       (meanwhile_then env store
       (opens.kept modelled
       (λ gone. there (sym (same_current env store asked from taken took modelled) ∙ gone)))
-      (Run-mono (λ now same. loses_none store (env.observed opened).disk.files now same)
+      (Run-mono (λ now same. loses_none (IsNotReplaced store) (env.observed opened).disk.files now same)
       (Run-call modelled does)))
 
   pub late_opens : IsStoreName store × IsTrue asked.fits × IsTrue asked.compresses

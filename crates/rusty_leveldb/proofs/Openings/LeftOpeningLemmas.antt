@@ -12,7 +12,7 @@ use Rattle.leveldb_files.specs.Stores.Format.{Agrees, Format, IsTableOf, Meaning
 use Rattle.leveldb_files.specs.Steps.StoreSteps.{KeepsHistory}
 use Rattle.leveldb_version.specs.Tables.TableCache.{TableOptions}
 use Rattle.leveldb_version.specs.declared.table_cache.TableCache.{TableCache}
-use Rattle.leveldb_store.proofs.Keeping.KeptBytesLemmas.{meanwhile_then}
+use Rattle.leveldb_store.proofs.Keeping.KeptBytesLemmas.{meanwhile_then, table_numbers_below}
 use Rattle.leveldb_store.proofs.Keeping.KeptFilesLemmas.{keeping, opens_keeping}
 use Rattle.leveldb_store.proofs.Openings.OpeningFrontLemmas.{keeps_found_then}
 use Rattle.leveldb_store.proofs.Keeping.SoundLemmas.{failed_once}
@@ -136,7 +136,8 @@ module _ {E F C FP D P : Type 0} (order : CmpGhosts (InternalKeyCmp C)) (env : G
       (subst (λ (s : List ℕ). LosesNoBytesMeanwhile env s opened to) opens_first.path
       (kept modelled (subst (λ (s : List ℕ).
       TableNumbersAreBelow s (env.observed opened).disk.files first.set.next_file)
-      (sym opens_first.path) (opens_first.numbers modelled))))
+      (sym opens_first.path) (table_numbers_below store (env.observed opened).disk.files
+      first.set.next_file (opens_first.numbers modelled)))))
 
   pub left_broken : LeavesUnopened env store format create_if_missing error_if_exists taken to
   left_broken = record {

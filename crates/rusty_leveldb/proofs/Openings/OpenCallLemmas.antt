@@ -14,6 +14,7 @@ use Rattle.leveldb_files.proofs.Steps.BytesLemmas.{bytes_stay}
 use Rattle.leveldb_files.specs.Stores.Paths.{lock_path}
 use Rattle.leveldb_files.specs.Steps.StoreSteps.{AppendedAreBytes}
 use Rattle.leveldb_store.proofs.Keeping.KeptBytesLemmas.{loses_made}
+use Rattle.leveldb_store.specs.Keeping.KeptBytes.{IsNotReplaced}
 use Rattle.leveldb_store.specs.Tables.BuildTable.{TableChoices}
 use Rattle.leveldb_files.specs.Stores.Format.{Agrees, Format, Meaning}
 use Rattle.leveldb_store.specs.Writing.Room.{HasFailed}
@@ -165,7 +166,7 @@ module _ {E C FP F P : Type 0} {B : Boxed} {keys : InternalOrder C} {key_filters
     misnamed = λ no. (misnamed no, tt);
     never_opens = λ modelled never. (tt, (near modelled).run);
     kept = λ modelled there. Run-mono
-        (λ now made. loses_made store (lock_path store) (env.observed from).disk.files now made)
+        (λ now made. loses_made (IsNotReplaced store) (lock_path store) (env.observed from).disk.files now made)
         (near modelled).run;
     unopened = λ modelled.
         inl (ap (λ (l : List ℕ → Bool). l (lock_path store)) (near modelled).locks);

@@ -16,6 +16,7 @@ use Rattle.leveldb_version.specs.declared.table_cache.TableCache.{TableCache}
 use Rattle.leveldb_store.proofs.Keeping.TableKeepsLemmas.{KeepsHistory-refl}
 use Rattle.leveldb_store.proofs.Compactions.CompactedLemmas.{compacted_then, merge_between}
 use Rattle.leveldb_store.proofs.Keeping.GivenTablesLemmas.{given_same}
+use Rattle.leveldb_store.proofs.Keeping.KeptBytesLemmas.{spares_kept_none}
 use Rattle.leveldb_store.proofs.Keeping.SoundLemmas.{nothing_goes_on, sound_ok}
 use Rattle.leveldb_store.proofs.Keeping.WrittenFromLemmas.{keeps_from}
 use Rattle.leveldb_store.specs.Tables.BuildTable.{TableChoices}
@@ -71,6 +72,7 @@ module _ {E F C FP : Type 0} (order : CmpGhosts (InternalKeyCmp C)) (env : Ghost
         numbers = omega arith;
         tables = λ modelled. given_same old.set (env.observed from).disk.files
             (env.observed from).disk.files (λ number fits given. refl);
+        kept = spares_kept_none old.set old.kept_to (env.observed from);
         locks = λ modelled. refl;
       };
       still_open = λ has. has.are;

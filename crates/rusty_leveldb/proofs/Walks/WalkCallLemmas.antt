@@ -22,7 +22,7 @@ use Rattle.rusty_leveldb.specs.Machines.State.{Request, Snapshot, refused}
 use Rattle.rusty_leveldb.specs.Engines.Serves.{refusal_of}
 use Rattle.rusty_leveldb.specs.Walks.Walks.{walk_of}
 use Rattle.rusty_leveldb.proofs.Engines.Others.{spares_same}
-use Rattle.rusty_leveldb.proofs.Engines.RestLemmas.{rest_still, tables_where_still}
+use Rattle.rusty_leveldb.proofs.Engines.RestLemmas.{kept_where_still, rest_still, tables_where_still}
 use Rattle.rusty_leveldb.proofs.Engines.RowLemmas.{walk_row}
 use Rattle.rusty_leveldb.proofs.Walks.WalkingLemmas.{walk_closed, walk_goes, walk_starved, walk_unheld}
 
@@ -120,6 +120,8 @@ module _ {E C FP F P : Type 0} {B : Boxed} {keys : InternalOrder C} {key_filters
                   (ap (λ (l : List ℕ → Bool). l before.lock) (walks.kept.locks modelled));
               tables = tables_where_still env before from to
                   (λ modelled. (walks.kept.disk modelled).has);
+              kept = kept_where_still env before from to walks.kept.disk;
+              stay_kept = (omega arith, refl);
               bytes = λ modelled syncs. absurd syncs;
             };
             time = λ modelled. (walks.kept.disk modelled).time.later;

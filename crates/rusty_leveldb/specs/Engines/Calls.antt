@@ -19,7 +19,7 @@ use Rattle.leveldb_mem.specs.MemTable.{IsUnion}
 use Rattle.leveldb_store.specs.Tables.BuildTable.{TableChoices}
 use Rattle.leveldb_store.specs.Compactions.Compact.{AreClearOf, deepest_overlapped}
 use Rattle.leveldb_store.specs.Logs.FoundLogs.{HasLogNotKept}
-use Rattle.leveldb_store.specs.Keeping.KeptBytes.{LosesNothing}
+use Rattle.leveldb_store.specs.Keeping.KeptBytes.{LosesNothing, SparesKept}
 use Rattle.leveldb_store.specs.Keeping.KeptEntries.{CompactsMemtables}
 use Rattle.leveldb_store.specs.Reading.Read.{GetsFromMemory, GetsFromTables}
 use Rattle.leveldb_store.specs.Writing.Room.{FailsFor, IsFull, ChangesLoggerOnly}
@@ -80,6 +80,13 @@ module _ {E C FP F : Type 0} {B : Boxed} (env : Ghosts E F) where
     -- no table changes whose number was given, though it may be deleted
     pub tables : IsTrue env.models_disk → KeepsGivenTables before.store.set
         (env.observed from).disk.files (env.observed to).disk.files
+    -- no file that is kept since the opening found damage loses a byte, now and at each moment on
+    -- the way, if its number was given
+    pub kept : SparesKept env.models_disk before.store.set before.store.kept_to
+        (env.observed from) (env.observed to)
+    -- and it is kept, and its number given, still
+    pub stay_kept : (before.store.set.next_file ≤ after.store.set.next_file)
+        × (after.store.kept_to ≡ before.store.kept_to)
     -- a sync adds no byte
     pub bytes : IsTrue env.models_disk → IsSyncing request
         → SameBytes (env.observed from).disk.files (env.observed to).disk.files
