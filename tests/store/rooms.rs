@@ -341,8 +341,8 @@ const LOG_DELETED: &[Act] = &[
     ),
 ];
 
-/// Puts twice, where the first call that lists or deletes a file fails: that is a line, and the
-/// next switch deletes what is left.
+/// Puts twice, where the first call that lists or deletes a file fails: that is a line, the last
+/// removal is an error, and the next switch deletes what is left.
 fn leave_and_delete(
     rt: &impl Abort,
     alloc: Global,
@@ -351,9 +351,9 @@ fn leave_and_delete(
     lines: &Cell<usize>,
 ) -> Result<()> {
     play_on(rt, alloc, env, engine, LOG_LEFT)?;
-    assert!(rt; lines.get() == 1);
+    assert!(rt; lines.get() == 1 && engine.last_removal().is_err());
     play_on(rt, alloc, env, engine, LOG_DELETED)?;
-    assert!(rt; lines.get() == 1);
+    assert!(rt; lines.get() == 1 && engine.last_removal().is_ok());
     Ok(())
 }
 

@@ -4,6 +4,7 @@ pub mod SwitchLemmas
 mod BatchShownLemmas
 pub mod Level0TableLemmas
 pub mod RoomLemmas
+pub mod RemovalLemmas
 pub mod SyncBatchLemmas
 pub mod LogBatchLemmas
 mod BatchHistoryLemmas

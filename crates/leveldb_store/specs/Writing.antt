@@ -3,5 +3,6 @@ pub mod Write
 pub mod Switch
 pub mod WriteBatch
 pub mod Room
+pub mod Removal
 pub mod RoomSteps
 pub mod Due

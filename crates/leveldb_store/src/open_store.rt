@@ -19,6 +19,7 @@ mod write;
 mod write_batch;
 
 use leveldb_base::cmp::{Cmp, UserCmp};
+use leveldb_base::error::Result;
 use leveldb_base::types::{FileNum, SequenceNumber};
 use leveldb_env::env::Env;
 use leveldb_mem::log::LogFile;
@@ -27,6 +28,10 @@ use leveldb_version_set::version_set::VersionSet;
 use std::alloc::Global;
 use std::marker::Model;
 pub use view::StoreView;
+
+/// What the last removal of obsolete files that a call did returned, or `None` if it did none. Of
+/// several the last counts, since each deletes all that is obsolete then.
+pub type Removal = Option<Result<()>>;
 
 /// A log that batches are appended to: its number, and its file with the writer of its records.
 #[derive(Drop)]

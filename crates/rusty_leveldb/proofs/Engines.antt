@@ -14,6 +14,7 @@ pub mod KeptLemmas
 pub mod HeldViewsLemmas
 mod KeepsOrCompactsLemmas
 pub mod RoomInLemmas
+pub mod TidyLemmas
 pub mod WritingLemmas
 pub mod RestLemmas
 pub mod SnapshotLemmas

@@ -5,6 +5,7 @@ pub mod Frame
 pub mod Serves
 pub mod Engine
 pub mod Rows
+pub mod Tidy
 pub mod Room
 pub mod Calls
 pub mod CallLaws

@@ -41,6 +41,7 @@ fn compactions(rt: HostRuntime) -> Result<()> {
     db.compact_range(b"a", b"b")?;
     assert!(rt; db.get(b"a")?.is_some() && db.get(b"b")?.is_none());
     db.compact_range(b"", b"")?;
+    assert!(rt; db.last_removal().is_ok());
     db.close()
 }
 

@@ -237,13 +237,3 @@ pub picked_may_be : {C : Type 0} (cmp : List ℕ → List ℕ → Ordering) (ver
     → IfSome picked (λ it. IsCompactionOf cmp version it.manual size it)
 picked_may_be cmp version size None each = tt
 picked_may_be cmp version size (Some it) each = compaction_as_manual each
-
--- the call ends so where one is picked, and else nothing changes
-pub picked_ends : {C : Type 0} {old new : OpenStoreValue C} (Ends : Type 0)
-    (picked : Option (CompactionValue C)) (result : Result (Unit {0}) Status)
-    → OnOk result (IfSome picked (λ it. Ends)) → (picked ≡ None → new ≡ old)
-    → OnOk result ((new ≡ old) ⊎ Ends)
-picked_ends Ends None (Ok done) ends none = inl (none refl)
-picked_ends Ends (Some it) (Ok done) ends none = inr ends
-picked_ends Ends None (Err status) ends none = tt
-picked_ends Ends (Some it) (Err status) ends none = tt

@@ -1,16 +1,18 @@
 -- What writing a batch returns and leaves, put together from its steps.
 use Rattle.std.specs.Prelude.{IsTrue}
-use Rattle.std.proofs.Common.{◌≡◌, ◌⊎◌, ◌+◌, inl, inr, ⊎_elim, ℕ, Bool, true, List, None, Some, Ok, Err, Result, ap, arith, length, refl, subst, sym}
+use Rattle.std.proofs.Common.{◌≡◌, ◌∙◌, ◌⊎◌, ◌+◌, inl, inr, ⊎_elim, ℕ, Bool, true, List, None, Some, Ok, Err, Result, ap, arith, length, refl, subst, sym, take}
+use Rattle.std.specs.Option.{option_map}
 use Rattle.std.specs.declared.cmp.Ordering.{Ordering}
 use Rattle.leveldb_base.specs.Error.{IsOutOfMemory}
 use Rattle.leveldb_base.specs.History.{Item}
 use Rattle.leveldb_base.specs.declared.error.Status.{Status}
-use Rattle.leveldb_env.proofs.EnvLemmas.{Run-mono, SameBut-refl, begun}
-use Rattle.leveldb_env.specs.Env.{AreBytes, Run, SameBut}
+use Rattle.leveldb_env.proofs.EnvLemmas.{Run-mono, SameBut-refl, at_same, begun}
+use Rattle.leveldb_env.specs.Env.{AreBytes, Files, Run, SameBut, extended, file_kept, longer_file}
 use Rattle.leveldb_env.specs.declared.env.Env.{Ghosts}
 use Rattle.leveldb_mem.specs.Log.Writer.{WriterState, after_frame}
 use Rattle.leveldb_mem.specs.MemTable.{IsUnion, Kept}
 use Rattle.leveldb_mem.specs.WriteBatch.{Batch, BatchOf, batch_bytes, batch_of}
+use Rattle.leveldb_version_set.specs.Sets.LogEdit.{AppendingAndSyncing}
 use Rattle.leveldb_store.proofs.Writing.BatchHistoryLemmas.{after_batch, batch_added, pending_leaves, room_leaves}
 use Rattle.leveldb_store.proofs.Keeping.KeptBytesLemmas.{loses_appending, loses_none}
 use Rattle.leveldb_store.proofs.Keeping.TableKeepsLemmas.{appending_and_syncing}
@@ -18,6 +20,24 @@ use Rattle.leveldb_store.specs.Keeping.KeptBytes.{LosesNoBytesAt}
 use Rattle.leveldb_store.specs.Keeping.OpenStore.{IsUnbroken, OpenStoreValue}
 use Rattle.leveldb_store.specs.Writing.Write.{CanBeInserted, HasNumbers, InsertsBatch, IsLogLost, LogsText, PreparesBatch, open_log_path, with_mem, with_writer}
 use Rattle.leveldb_store.specs.Writing.WriteBatch.{FailsToWriteBatch, IsNotBegun, WritesBatch, next_batch}
+
+-- a file that is missing isn't made by appending to it, nor by a sync of it
+missing_extended : (path bytes : List ℕ) (files : Files) → files path ≡ None
+    → extended path bytes files path ≡ None
+missing_extended path bytes files none =
+    at_same path (option_map (longer_file bytes) (files path)) files
+    ∙ ap (option_map (longer_file bytes)) none
+
+missing_appended : (path bytes : List ℕ) (old now : Files) → old path ≡ None
+    → AppendingAndSyncing path bytes old now → now path ≡ None
+missing_appended path bytes old now none (inl (inl same)) =
+    ap (λ (f : Files). f path) same ∙ none
+missing_appended path bytes old now none (inl (inr part)) =
+    ap (λ (f : Files). f path) part.1 ∙ missing_extended path (take part.0 bytes) old none
+missing_appended path bytes old now none (inr done) =
+    ap (λ (f : Files). f path) done
+    ∙ at_same path (option_map file_kept (extended path bytes old path)) (extended path bytes old)
+    ∙ ap (option_map file_kept) (missing_extended path bytes old none)
 
 module _ {E F C : Type 0} (env : Ghosts E F) (cmp : List ℕ → List ℕ → Ordering)
     (old : OpenStoreValue C) (from : E) (items : List Item) (sync : Bool) (mem : Kept)
@@ -48,6 +68,7 @@ module _ {E F C : Type 0} (env : Ghosts E F) (cmp : List ℕ → List ℕ → Or
     others = λ modelled. SameBut-refl (open_log_path old) (env.observed from).disk.files;
     bytes = λ modelled. begun (env.observed from) (loses_none (λ path. Unit {0})
         (env.observed from).disk.files (env.observed from).disk.files refl);
+    makes_none = λ modelled none. none;
     locks = λ modelled. refl;
     usable = tt;
     breaks = inl (why, refl);
@@ -75,6 +96,12 @@ module _ {E F C : Type 0} (env : Ghosts E F) (cmp : List ℕ → List ℕ → Or
             (env.observed from).disk.files) (env.observed from) (env.observed to)
         bytes_stay modelled = Run-mono (loses_appending (λ path. Unit {0}) (open_log_path old) _
             (env.observed from).disk.files) (logs.run modelled)
+
+        stays_missing : IsTrue env.models_disk
+            → (env.observed from).disk.files (open_log_path old) ≡ None
+            → (env.observed to).disk.files (open_log_path old) ≡ None
+        stays_missing modelled none = missing_appended (open_log_path old) _
+            (env.observed from).disk.files (env.observed to).disk.files none (logs.run modelled).has
 
         uncounted : (status : Status) → (IsLogLost env old from to status
             → env.failures to ≡ env.failures from) → FailsToWriteBatch env cmp old from items to status
@@ -112,6 +139,7 @@ module _ {E F C : Type 0} (env : Ghosts E F) (cmp : List ℕ → List ℕ → Or
             rest = refl;
             others = others_stay (Err status) then to logs;
             bytes = bytes_stay (Err status) then to logs;
+            makes_none = stays_missing (Err status) then to logs;
             locks = logs.locks;
             usable = tt;
             breaks = inr is;
@@ -140,6 +168,7 @@ module _ {E F C : Type 0} (env : Ghosts E F) (cmp : List ℕ → List ℕ → Or
         rest = refl;
         others = others_stay (Ok tt) then to logs;
         bytes = bytes_stay (Ok tt) then to logs;
+        makes_none = stays_missing (Ok tt) then to logs;
         locks = logs.locks;
         usable = record { manifest = unbroken.manifest; log = unbroken.log };
         breaks = tt;

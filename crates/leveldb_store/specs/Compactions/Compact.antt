@@ -42,7 +42,7 @@ use Rattle.leveldb_store.specs.Keeping.OpenTables.{AreOpenTablesOf}
 use Rattle.leveldb_store.specs.Openings.Opening.{GivesNumbers, TakesBackNew}
 use Rattle.leveldb_store.specs.Tables.Outputs.{ChangesNewTables}
 use Rattle.leveldb_store.specs.Reading.Read.{HasOpenTables, in_memory}
-use Rattle.leveldb_store.specs.Writing.Room.{AreEntriesNotBuilt, FailsFor, RemovesAtLast}
+use Rattle.leveldb_store.specs.Writing.Room.{AreEntriesNotBuilt, FailsFor}
 use Rattle.leveldb_store.specs.Keeping.SoundCall.{BreaksForCause, IsSoundCall}
 use Rattle.leveldb_store.specs.Writing.Switch.{AreFileNumbersTooFew, IsManifestLost}
 use Rattle.leveldb_store.specs.Keeping.Written.{HasLiveTables, IsWritten, SparesRest}
@@ -277,11 +277,6 @@ AreClearOf cmp range last files =
 abbrev pub KeepsLevelsAbove : ℕ → List NewFile → List NewFile → Type 0
 KeepsLevelsAbove level before after = (other : ℕ) → other < level
     → files_of_level other after ≡ files_of_level other before
-
--- the last that was done is a removal of the obsolete files of this store
-abbrev pub EndsByRemoval : {E F C : Type 0} → Ghosts E F → OpenStoreValue C → E → Type 0
-EndsByRemoval env value to =
-    (removal : Result (Unit {0}) Status) × RemovesAtLast env value removal to
 
 module _ {E F C FP : Type 0} (order : CmpGhosts (InternalKeyCmp C)) (env : Ghosts E F)
     (by : TableOptions C FP) (old : OpenStoreValue C) (from : E)

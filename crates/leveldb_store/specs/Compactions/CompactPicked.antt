@@ -6,22 +6,19 @@ use Rattle.leveldb_base.specs.declared.error.Status.{Status}
 use Rattle.leveldb_env.specs.declared.env.Env.{Ghosts}
 use Rattle.leveldb_version_set.specs.Compactions.Picking.{CompactionValue}
 use Rattle.leveldb_version.specs.declared.table_cache.TableCache.{TableCache}
-use Rattle.leveldb_store.specs.Compactions.Compact.{EndsByRemoval, LogsCompaction}
+use Rattle.leveldb_store.specs.Compactions.Compact.{LogsCompaction}
 use Rattle.leveldb_store.specs.Keeping.KeptBytes.{AreKept, NewTablesLoseNothing}
 use Rattle.leveldb_store.specs.Keeping.KeptEntries.{CompactsOnceAtMost}
 use Rattle.leveldb_store.specs.Keeping.OpenStore.{OpenStoreValue}
 use Rattle.leveldb_store.specs.Keeping.SoundCall.{BreaksForCause}
 
 -- What the compaction that was picked leaves, if one was.
-pub record CompactsPicked {E F C FP : Type 0} (env : Ghosts E F)
-    (cmp : List ℕ → List ℕ → Ordering) (picked : Option (CompactionValue C))
-    (old : OpenStoreValue C) (from : E) (tables : TableCache E C FP F)
-    (result : Result (Unit {0}) Status) (new : OpenStoreValue C) (to : E)
-    (now : TableCache E C FP F) : Type 0 where
+pub record CompactsPicked {E F C FP : Type 0} (cmp : List ℕ → List ℕ → Ordering)
+    (picked : Option (CompactionValue C)) (old : OpenStoreValue C) (from : E)
+    (tables : TableCache E C FP F) (result : Result (Unit {0}) Status) (new : OpenStoreValue C)
+    (to : E) (now : TableCache E C FP F) : Type 0 where
   -- Ok: its edit was logged
   pub logged : OnOk result (IfSome picked (λ it. LogsCompaction cmp it old new))
-  -- and then obsolete files were removed
-  pub removes : OnOk result (IfSome picked (λ it. EndsByRemoval env new to))
   -- where none was picked, nothing is done
   pub none : picked ≡ None → (result ≡ Ok tt) × (new ≡ old) × (to ≡ from) × (now ≡ tables)
   -- Err: the live files are those that they were, and the version is

@@ -16,7 +16,7 @@ use Rattle.leveldb_mem.specs.MemTable.{Kept, memory_of_entries}
 use Rattle.leveldb_store.specs.Tables.BuildTable.{IsNotBuilt, TableChoices}
 use Rattle.leveldb_files.specs.Stores.Format.{Agrees, Format, Meaning}
 use Rattle.leveldb_store.specs.Keeping.OpenStore.{IsUnbroken, OpenStoreValue}
-use Rattle.leveldb_store.specs.Writing.Switch.{AreFileNumbersTooFew, RemovesNoOther, RemovesObsolete}
+use Rattle.leveldb_store.specs.Writing.Switch.{AreFileNumbersTooFew, RemovesNoOther}
 use Rattle.leveldb_store.specs.Keeping.Written.{IsWritten, KeepsWritten, SparesRest}
 
 -- ---- why a call fails that may tell some failures to a sink alone
@@ -39,19 +39,6 @@ pub record ChangesLoggerOnly {C FP : Type 0} {B : Boxed} (before after : Options
   pub rest : after ≡ record before { log = after.log }
   -- there is one if there was one
   pub sink : is_some after.log ≡ is_some before.log
-
--- ---- removals
-
--- what a call returned, beside what the removal at its end did
-abbrev pub but_removal : Result (Result (Unit {0}) Status) Status → Result (Unit {0}) Status
-but_removal (Ok removal) = Ok tt
-but_removal (Err status) = Err status
-
--- the last that was done is a removal of the files of this store that are obsolete and aren't kept
-abbrev pub RemovesAtLast : {E F C : Type 0} → Ghosts E F → OpenStoreValue C
-    → Result (Unit {0}) Status → E → Type 0
-RemovesAtLast {E} env value removal to =
-    (at : E) × RemovesObsolete env value.set value.kept_to at removal to
 
 -- ---- room
 

@@ -141,6 +141,10 @@ module _ {E F C : Type 0} (env : Ghosts E F) (cmp : List ℕ → List ℕ → Or
       -- and no file loses a byte, now and at each moment on the way
       pub bytes : IsTrue env.models_disk → Run (LosesNoBytesAt (λ path. Unit {0})
           (env.observed from).disk.files) (env.observed from) (env.observed to)
+      -- nor is the log made where it is missing
+      pub makes_none : IsTrue env.models_disk
+          → (env.observed from).disk.files (open_log_path old) ≡ None
+          → (env.observed to).disk.files (open_log_path old) ≡ None
       pub locks : SameLocks env.models_disk (env.observed from) (env.observed to)
       pub usable : OnOk result (IsUnbroken new)
       -- after an Err either no call was made, for a cause, or the log is broken

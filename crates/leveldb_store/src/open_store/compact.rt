@@ -1,17 +1,18 @@
 //! One compaction of an open store: other files take the place of those that it takes, and its edit
 //! is logged.
 // LevelDB: db/db_impl.cc, DBImpl::BackgroundCompaction
-ghost use Rattle.std.specs.Prelude.{◌≡◌, ◌⊎◌, ◌++◌, IfErr, IfSome, None, Option, OnOk, is_some, map};
+ghost use Rattle.std.specs.Prelude.{◌≡◌, ◌++◌, IfErr, IfOk, IfSome, None, Option, OnOk, is_some, map};
 ghost use Rattle.leveldb_base.specs.Error.{IsOutOfMemory};
 ghost use Rattle.leveldb_files.specs.Stores.Format.{format_of};
 ghost use Rattle.leveldb_version_set.specs.Compactions.Picking.{CompactionValue, IsAskedByReads, IsCompactionOf};
 ghost use Rattle.leveldb_version.specs.Tables.TableCache.{table_options};
 ghost use Rattle.leveldb_store.specs.Tables.BuildTable.{choices_of};
-ghost use Rattle.leveldb_store.specs.Compactions.Compact.{CompactsIfAsked, CompactsStore, CompactsTables, EndsByRemoval, LogsPicked};
+ghost use Rattle.leveldb_store.specs.Compactions.Compact.{CompactsIfAsked, CompactsStore, CompactsTables, LogsPicked};
 ghost use Rattle.leveldb_store.specs.Compactions.CompactPicked.{CompactsPicked, CompactsWithoutLoss};
 ghost use Rattle.leveldb_store.specs.Keeping.OpenStore.{IsUnbroken};
+ghost use Rattle.leveldb_store.specs.Writing.Removal.{EndsByRemoval, but_removal};
 
-use super::OpenStore;
+use super::{OpenStore, Removal};
 use leveldb_base::cmp::{Cmp, InternalKeyCmp, UserCmp};
 use leveldb_base::error::Result;
 use leveldb_base::types::{FileMetaData, SequenceNumber};
@@ -27,9 +28,9 @@ use leveldb_version_set::compaction::Compaction;
 impl<E: Env, C: UserCmp + Copy + Drop> OpenStore<E, C> {
     /// Does the compaction for which the current version asks, by the score of a level or else by
     /// reads, if it asks for one, and deletes the files that are obsolete then; what fails of that
-    /// is a line for `log`. Entries that are shadowed at `smallest`, the smallest number at which
-    /// the store is read, may go, and deletions up to it that no deeper level needs. There is no
-    /// immutable memtable.
+    /// is a line for `log`. An Ok has what the removal returned, if there was one. Entries that are
+    /// shadowed at `smallest`, the smallest number at which the store is read, may go, and
+    /// deletions up to it that no deeper level needs. There is no immutable memtable.
     ///
     /// After an Err the tables are those that they were, no file has lost a byte, and the next call
     /// tries again, unless the store broke.
@@ -40,7 +41,7 @@ impl<E: Env, C: UserCmp + Copy + Drop> OpenStore<E, C> {
         tables: &mut TableCache<E, C, FP>,
         smallest: SequenceNumber,
         log: &mut Option<Logger>,
-    ) -> Result<()>
+    ) -> Result<Removal>
         requires usable { IsUnbroken self.old }
         requires order { C.cmp options.now.cmp ≡ C.cmp self.old.cmp }
         requires none_waits { self.old.imm ≡ None }
@@ -49,13 +50,13 @@ impl<E: Env, C: UserCmp + Copy + Drop> OpenStore<E, C> {
             ⟦<CompressorList as Compressors>⟧.codings options.now in
             CompactsTables ⟦<InternalKeyCmp<C> as Cmp>⟧ E.Env
             (table_options choices.format options.now) self.old env.old tables.old choices smallest
-            result self.new env.new tables.new }
+            (but_removal result) self.new env.new tables.new }
         ensures asked { CompactsIfAsked (C.cmp self.old.cmp) options.now.max_file_size self.old
-            result self.new }
-        ensures removes { OnOk result
-            ((self.new ≡ self.old) ⊎ EndsByRemoval E.Env self.new env.new) }
-        ensures keeps { CompactsWithoutLoss E.Env (C.cmp self.old.cmp) self.old env.old result
-            self.new env.new }
+            (but_removal result) self.new }
+        ensures keeps { CompactsWithoutLoss E.Env (C.cmp self.old.cmp) self.old env.old
+            (but_removal result) self.new env.new }
+        ensures removes { IfOk result (λ removal.
+            EndsByRemoval E.Env env.old self.old removal self.new env.new) }
         ensures log { is_some log.new ≡ is_some log.old }
     {
         let picked = self.versions.pick_compaction(options)?;
@@ -71,7 +72,7 @@ impl<E: Env, C: UserCmp + Copy + Drop> OpenStore<E, C> {
         tables: &mut TableCache<E, C, FP>,
         smallest: SequenceNumber,
         log: &mut Option<Logger>,
-    ) -> Result<()>
+    ) -> Result<Removal>
         requires usable { IsUnbroken self.old }
         requires order { C.cmp options.now.cmp ≡ C.cmp self.old.cmp }
         requires none_waits { self.old.imm ≡ None }
@@ -80,12 +81,14 @@ impl<E: Env, C: UserCmp + Copy + Drop> OpenStore<E, C> {
             ⟦<CompressorList as Compressors>⟧.codings options.now in
             CompactsTables ⟦<InternalKeyCmp<C> as Cmp>⟧ E.Env
             (table_options choices.format options.now) self.old env.old tables.old choices smallest
-            result self.new env.new tables.new }
+            (but_removal result) self.new env.new tables.new }
         ensures asked { OnOk result ((picked : Option (CompactionValue C))
             × IsAskedByReads (C.cmp self.old.cmp) self.old.current options.now.max_file_size picked
             × LogsPicked (C.cmp self.old.cmp) picked self.old self.new) }
-        ensures keeps { CompactsWithoutLoss E.Env (C.cmp self.old.cmp) self.old env.old result
-            self.new env.new }
+        ensures keeps { CompactsWithoutLoss E.Env (C.cmp self.old.cmp) self.old env.old
+            (but_removal result) self.new env.new }
+        ensures removes { IfOk result (λ removal.
+            EndsByRemoval E.Env env.old self.old removal self.new env.new) }
         ensures log { is_some log.new ≡ is_some log.old }
     {
         let picked = self.versions.compaction_by_reads(options)?;
@@ -102,7 +105,7 @@ impl<E: Env, C: UserCmp + Copy + Drop> OpenStore<E, C> {
         smallest: SequenceNumber,
         log: &mut Option<Logger>,
         picked: Option<Compaction<C>>,
-    ) -> Result<()>
+    ) -> Result<Removal>
         requires usable { IsUnbroken self.old }
         requires order { C.cmp options.now.cmp ≡ C.cmp self.old.cmp }
         requires none_waits { self.old.imm ≡ None }
@@ -113,20 +116,20 @@ impl<E: Env, C: UserCmp + Copy + Drop> OpenStore<E, C> {
             ⟦<CompressorList as Compressors>⟧.codings options.now in
             CompactsTables ⟦<InternalKeyCmp<C> as Cmp>⟧ E.Env
             (table_options choices.format options.now) self.old env.old tables.old choices smallest
-            result self.new env.new tables.new }
-        ensures does { CompactsPicked E.Env (C.cmp self.old.cmp) picked self.old env.old tables.old
-            result self.new env.new tables.new }
-        ensures keeps { CompactsWithoutLoss E.Env (C.cmp self.old.cmp) self.old env.old result
-            self.new env.new }
+            (but_removal result) self.new env.new tables.new }
+        ensures does { CompactsPicked (C.cmp self.old.cmp) picked self.old env.old tables.old
+            (but_removal result) self.new env.new tables.new }
+        ensures keeps { CompactsWithoutLoss E.Env (C.cmp self.old.cmp) self.old env.old
+            (but_removal result) self.new env.new }
+        ensures removes { IfOk result (λ removal.
+            EndsByRemoval E.Env env.old self.old removal self.new env.new) }
         ensures log { is_some log.new ≡ is_some log.old }
     {
         let Some(compaction) = picked else {
-            return Ok(());
+            return Ok(None);
         };
         self.compact(env, options, tables, smallest, compaction)?;
-        // What fails of that is a line for `log`.
-        let _ = self.tidy_up(env, tables, log);
-        Ok(())
+        Ok(Some(self.tidy_up(env, tables, log)))
     }
 
     // Does a compaction of the current version: its edit is logged once the tables are synced that

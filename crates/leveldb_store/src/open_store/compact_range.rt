@@ -12,10 +12,11 @@ ghost use Rattle.leveldb_store.specs.Tables.BuildTable.{choices_of};
 ghost use Rattle.leveldb_store.specs.Compactions.Compact.{CompactsRange, CompactsTables, KeepsLevelsAbove, deepest_overlapped};
 ghost use Rattle.leveldb_store.specs.Keeping.KeptEntries.{CompactsInTurn, CompactsMemtables};
 ghost use Rattle.leveldb_store.specs.Keeping.OpenStore.{IsUnbroken};
+ghost use Rattle.leveldb_store.specs.Writing.Removal.{EndsByRemoval, but_removal};
 ghost use Rattle.leveldb_store.specs.Writing.Room.{FailsToMakeRoom};
 ghost use Rattle.leveldb_store.specs.Writing.RoomSteps.{IsStepToRoom, MakesTablesOfMemory};
 
-use super::OpenStore;
+use super::{OpenStore, Removal};
 use leveldb_base::cmp::{Cmp, InternalKeyCmp, UserCmp};
 use leveldb_base::error::Result;
 use leveldb_base::key_types::{InternalKey, LookupKey};
@@ -35,7 +36,8 @@ impl<E: Env, C: UserCmp + Copy + Drop> OpenStore<E, C> {
     /// level 1: then no file of these levels overlaps it. An empty key is an open end. Entries that
     /// are shadowed at `smallest`, the smallest number at which the store is read, may go, and
     /// deletions up to it that no deeper level needs. Obsolete files are deleted after each edit,
-    /// and their tables closed; what fails of that is a line for `log`.
+    /// and their tables closed; what fails of that is a line for `log`, and an Ok has what the last
+    /// of these removals returned.
     ///
     /// After an Err some of this may be done; of a store that is written no entry that is read is
     /// lost. Whatever the files are, each entry that was in memory is there still, or was in a
@@ -50,7 +52,7 @@ impl<E: Env, C: UserCmp + Copy + Drop> OpenStore<E, C> {
         log: &mut Option<Logger>,
         from: &[u8],
         to: &[u8],
-    ) -> Result<()>
+    ) -> Result<Removal>
         requires usable { IsUnbroken self.old }
         requires order { C.cmp options.now.cmp ≡ C.cmp self.old.cmp }
         ensures compacts { let choices = choices_of C.Cmp FP.FilterPolicy
@@ -58,22 +60,26 @@ impl<E: Env, C: UserCmp + Copy + Drop> OpenStore<E, C> {
             ⟦<CompressorList as Compressors>⟧.codings options.now in
             CompactsRange ⟦<InternalKeyCmp<C> as Cmp>⟧ E.Env
             (table_options choices.format options.now) self.old env.old tables.old choices smallest
-            (named_range from.now to.now) result self.new env.new tables.new }
+            (named_range from.now to.now) (but_removal result) self.new env.new tables.new }
         ensures entries { CompactsMemtables E.Env (format_of C.Cmp FP.FilterPolicy
             ⟦<CompressorList as Compressors>⟧.codings options.now) self.old env.old self.new
             env.new }
+        ensures removes { IfOk result (λ removal.
+            EndsByRemoval E.Env env.old self.old removal self.new env.new) }
         ensures log { is_some log.new ≡ is_some log.old }
     {
         let begin = LookupKey::new(self.alloc, from, 0)?;
         let end = LookupKey::new(self.alloc, to, 0)?;
         let deepest = self.deepest_overlapped(from, to);
-        self.compact_memtables(env, options, tables, log)?;
-        self.compact_by_reads(env, options, tables, smallest, log)?;
+        let made = self.compact_memtables(env, options, tables, log)?;
+        let read = self.compact_by_reads(env, options, tables, smallest, log)?;
+        let mut removal = read.or(made);
         let range = (begin.internal_key(), end.internal_key());
         for level in 0..deepest + 1 {
-            self.compact_level(env, options, tables, smallest, log, level, range)?;
+            let last = self.compact_level(env, options, tables, smallest, log, level, range)?;
+            removal = last.or(removal);
         }
-        Ok(())
+        Ok(removal)
     }
 
     // The deepest of the levels 1 to 5 of which a file overlaps the range, or 1.
@@ -92,14 +98,15 @@ impl<E: Env, C: UserCmp + Copy + Drop> OpenStore<E, C> {
         deepest
     }
 
-    // Makes tables of the entries of the immutable memtable and of the memtable.
+    // Makes tables of the entries of the immutable memtable and of the memtable. An Ok has what the
+    // last removal of obsolete files returned.
     fn compact_memtables<FP: FilterPolicy + Copy + Drop>(
         &mut self,
         env: &mut E,
         options: &Options<C, FP>,
         tables: &mut TableCache<E, C, FP>,
         log: &mut Option<Logger>,
-    ) -> Result<()>
+    ) -> Result<Removal>
         requires usable { IsUnbroken self.old }
         requires order { C.cmp options.now.cmp ≡ C.cmp self.old.cmp }
         ensures step { let choices = choices_of C.Cmp FP.FilterPolicy
@@ -107,25 +114,27 @@ impl<E: Env, C: UserCmp + Copy + Drop> OpenStore<E, C> {
             ⟦<CompressorList as Compressors>⟧.codings options.now in
             IsStepToRoom E.Env (C.cmp self.old.cmp) choices.format
             (FailsToMakeRoom E.Env (C.cmp self.old.cmp) self.old env.old choices)
-            self.old env.old result self.new env.new }
+            self.old env.old (but_removal result) self.new env.new }
         ensures tables { MakesTablesOfMemory E.Env (C.cmp self.old.cmp) (format_of C.Cmp
             FP.FilterPolicy ⟦<CompressorList as Compressors>⟧.codings options.now) 2 self.old
-            env.old tables.old result self.new env.new tables.new }
+            env.old tables.old (but_removal result) self.new env.new tables.new }
         ensures tables_made { OnOk result
             ((self.new.mem.entries ≡ []) × (self.new.imm ≡ None)) }
+        ensures removes { IfOk result (λ removal.
+            EndsByRemoval E.Env env.old self.old removal self.new env.new) }
         ensures log { is_some log.new ≡ is_some log.old }
     {
-        let _ = self.compact_memtable(env, options, tables, log)?;
+        let removal = self.compact_memtable(env, options, tables, log)?;
         if self.mem.len() == 0 {
-            return Ok(());
+            return Ok(removal);
         }
         self.switch_log(env)?;
-        let _ = self.compact_memtable(env, options, tables, log)?;
-        Ok(())
+        self.compact_memtable(env, options, tables, log)
     }
 
     // Compacts the files of a level that overlap the range between the user keys of two internal
-    // keys. Each compaction takes one of them at least, and puts none into the level.
+    // keys. Each compaction takes one of them at least, and puts none into the level. An Ok has what
+    // the last removal of obsolete files returned.
     fn compact_level<FP: FilterPolicy + Copy + Drop>(
         &mut self,
         env: &mut E,
@@ -135,7 +144,7 @@ impl<E: Env, C: UserCmp + Copy + Drop> OpenStore<E, C> {
         log: &mut Option<Logger>,
         level: usize,
         range: (InternalKey<'_>, InternalKey<'_>),
-    ) -> Result<()>
+    ) -> Result<Removal>
         requires level { level < 6 }
         requires usable { IsUnbroken self.old }
         requires order { C.cmp options.now.cmp ≡ C.cmp self.old.cmp }
@@ -145,19 +154,23 @@ impl<E: Env, C: UserCmp + Copy + Drop> OpenStore<E, C> {
             ⟦<CompressorList as Compressors>⟧.codings options.now in
             CompactsTables ⟦<InternalKeyCmp<C> as Cmp>⟧ E.Env
             (table_options choices.format options.now) self.old env.old tables.old choices smallest
-            result self.new env.new tables.new }
+            (but_removal result) self.new env.new tables.new }
         ensures clear { OnOk result (is_overlapped (C.cmp self.old.cmp) level
             (named_range (user_part range.entry.0.now) (user_part range.entry.1.now))
             self.new.set.full.added ≡ false) }
         ensures above { KeepsLevelsAbove level self.old.set.full.added self.new.set.full.added }
         ensures in_turn { CompactsInTurn E.Env (C.cmp self.old.cmp) self.old env.old self.new
             env.new }
+        ensures removes { IfOk result (λ removal.
+            EndsByRemoval E.Env env.old self.old removal self.new env.new) }
         ensures log { is_some log.new ≡ is_some log.old }
     {
+        let mut removal = None;
         while let Some(picked) = self.picked_in_level(options, level, range)? {
-            self.compact_picked(env, options, tables, smallest, log, Some(picked))?;
+            let last = self.compact_picked(env, options, tables, smallest, log, Some(picked))?;
+            removal = last.or(removal);
         }
-        Ok(())
+        Ok(removal)
     }
 
     // The compaction of the files of a level that overlap the range between the user keys of two

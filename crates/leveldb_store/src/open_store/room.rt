@@ -6,13 +6,14 @@ ghost use Rattle.leveldb_store.specs.Tables.BuildTable.{choices_of};
 ghost use Rattle.leveldb_files.specs.Stores.Format.{Agrees, format_of};
 ghost use Rattle.leveldb_store.specs.Keeping.OpenStore.{IsUnbroken};
 ghost use Rattle.leveldb_store.specs.Keeping.OpenTables.{ClosesObsolete};
-ghost use Rattle.leveldb_store.specs.Writing.Room.{IsFull, MakesRoom, RemovesAtLast, TidiesUp, but_removal};
+ghost use Rattle.leveldb_store.specs.Writing.Removal.{EndsByRemoval, but_removal};
+ghost use Rattle.leveldb_store.specs.Writing.Room.{IsFull, MakesRoom, TidiesUp};
 ghost use Rattle.leveldb_store.specs.Writing.Due.{is_compaction_due, looked_after, looks_for_compaction};
 ghost use Rattle.leveldb_store.specs.Writing.RoomSteps.{MakesTablesOfMemory, CompactsMemtable};
 ghost use Rattle.leveldb_store.specs.Keeping.SoundCall.{BytesAreAppended, IsSoundCall, TimeGoesOn};
 ghost use Rattle.leveldb_store.specs.Writing.Switch.{RemovesObsolete};
 
-use super::OpenStore;
+use super::{OpenStore, Removal};
 use leveldb_base::cmp::{Cmp, InternalKeyCmp, UserCmp};
 use leveldb_base::error::Result;
 use leveldb_env::compressor::{CompressorList, Compressors};
@@ -90,7 +91,7 @@ impl<E: Env, C: UserCmp + Copy + Drop> OpenStore<E, C> {
     /// table. Where there is an immutable one already, since a call before made no table of it,
     /// that becomes one before anything else, so that there is one at most. Obsolete files are
     /// deleted after each table, and their tables closed; what fails of that is a line for `log`.
-    /// An Ok has what the last of these removals returned.
+    /// An Ok has what the last of these removals returned, if there was one.
     ///
     /// After an Err the memtable is full still, or there is an immutable one. Whatever the files
     /// are, no entry is lost. The next call goes on from there, unless the store broke.
@@ -100,7 +101,7 @@ impl<E: Env, C: UserCmp + Copy + Drop> OpenStore<E, C> {
         options: &Options<C, FP>,
         tables: &mut TableCache<E, C, FP>,
         log: &mut Option<Logger>,
-    ) -> Result<Result<()>>
+    ) -> Result<Removal>
         requires usable { IsUnbroken self.old }
         requires order { C.cmp options.now.cmp ≡ C.cmp self.old.cmp }
         ensures makes { MakesRoom E.Env (C.cmp self.old.cmp) self.old env.old (choices_of C.Cmp
@@ -108,8 +109,7 @@ impl<E: Env, C: UserCmp + Copy + Drop> OpenStore<E, C> {
             ⟦<InternalFilterPolicy<FP> as FilterPolicy>⟧ ⟦<CompressorList as Compressors>⟧.codings
             options.now) options.now.write_buffer_size (but_removal result) self.new env.new }
         ensures removes { IfOk result (λ removal.
-            IsFull options.now.write_buffer_size self.old.mem
-            → RemovesAtLast E.Env self.new removal env.new) }
+            EndsByRemoval E.Env env.old self.old removal self.new env.new) }
         ensures sound { IsSoundCall E.Env (C.cmp self.old.cmp) (Agrees (format_of C.Cmp
             FP.FilterPolicy ⟦<CompressorList as Compressors>⟧.codings options.now)) self.old
             env.old (but_removal result) self.new env.new }
@@ -119,7 +119,7 @@ impl<E: Env, C: UserCmp + Copy + Drop> OpenStore<E, C> {
         ensures log { is_some log.new ≡ is_some log.old }
     {
         if !self.is_full(options.write_buffer_size) {
-            return Ok(Ok(()));
+            return Ok(None);
         }
         let _ = self.compact_memtable(env, options, tables, log)?;
         self.switch_log(env)?;
@@ -127,31 +127,31 @@ impl<E: Env, C: UserCmp + Copy + Drop> OpenStore<E, C> {
     }
 
     // Makes a table of the immutable memtable, if there is one, and deletes the files that are
-    // obsolete then. An Ok has what the removal returned.
+    // obsolete then. An Ok has what the removal returned, if there was one.
     pub(super) fn compact_memtable<FP: FilterPolicy + Copy + Drop>(
         &mut self,
         env: &mut E,
         options: &Options<C, FP>,
         tables: &mut TableCache<E, C, FP>,
         log: &mut Option<Logger>,
-    ) -> Result<Result<()>>
+    ) -> Result<Removal>
         requires usable { IsUnbroken self.old }
         requires order { C.cmp options.now.cmp ≡ C.cmp self.old.cmp }
         ensures imm { CompactsMemtable E.Env (C.cmp self.old.cmp) (choices_of C.Cmp
             FP.FilterPolicy ⟦<InternalKeyCmp<C> as Cmp>⟧
             ⟦<InternalFilterPolicy<FP> as FilterPolicy>⟧ ⟦<CompressorList as Compressors>⟧.codings
             options.now) self.old env.old (but_removal result) self.new env.new }
-        ensures removes { IfOk result (λ removal. self.old.imm ≢ None
-            → RemovesAtLast E.Env self.new removal env.new) }
+        ensures removes { IfOk result (λ removal.
+            EndsByRemoval E.Env env.old self.old removal self.new env.new) }
         ensures tables { MakesTablesOfMemory E.Env (C.cmp self.old.cmp) (format_of C.Cmp
             FP.FilterPolicy ⟦<CompressorList as Compressors>⟧.codings options.now) 1 self.old
             env.old tables.old (but_removal result) self.new env.new tables.new }
         ensures log { is_some log.new ≡ is_some log.old }
     {
         if !self.has_imm() {
-            return Ok(Ok(()));
+            return Ok(None);
         }
         self.write_level0_table(env, options)?;
-        Ok(self.tidy_up(env, tables, log))
+        Ok(Some(self.tidy_up(env, tables, log)))
     }
 }

@@ -63,6 +63,7 @@ module _ {E C FP F P : Type 0} {B : Boxed} {keys : InternalOrder C} {key_filters
         clear = tt;
         snapshots = refl;
         looks = refl;
+        tidy = inr (refl, tt);
         options = record { rest = refl; sink = refl };
         rest = rest_still env before from (compact_range low high) (Err status)
             (inr (status, refl));
@@ -119,6 +120,7 @@ module _ {E C FP F P : Type 0} {B : Boxed} {keys : InternalOrder C} {key_filters
           clear = tt;
           snapshots = refl;
           looks = refl;
+          tidy = inr (refl, tt);
           options = record { rest = refl; sink = refl };
           rest = rest_still env before from (compact_range low high) (Err status)
               (inr (status, refl));
@@ -195,6 +197,7 @@ module _ {E C FP F P : Type 0} {B : Boxed} {keys : InternalOrder C} {key_filters
             clear = it.compacts.clear;
             snapshots = ap (λ (e : EngineOf E C FP F B). e.snapshots) it.rest;
             looks = ap (λ (e : EngineOf E C FP F B). e.looked_at) it.rest;
+            tidy = it.tidy;
             options = compact_tells env choices before from low high result after to it sink;
             rest = rest_kept env before from opened (compact_range low high) result
                 (λ kind is. is) (λ kind is. is) (λ held. refl) (λ syncs. syncs) after to

@@ -154,6 +154,7 @@ module _ {E C FP F P : Type 0} {B : Boxed} {keys : InternalOrder C} {key_filters
           again = λ room. inr refl;
           failed = (inr refl, (refl, λ room. (refl, refl)));
           entries = kept_as_they_are env (formats (engine_options before)) before.store at;
+          tidy = inr (refl, tt);
           breaks = inr (inl refl);
           snapshots = refl;
           options = record { rest = refl; sink = refl };
@@ -176,6 +177,7 @@ module _ {E C FP F P : Type 0} {B : Boxed} {keys : InternalOrder C} {key_filters
           memory = refl;
           snapshots = refl;
           looks = refl;
+          removal = refl;
           options = record { rest = refl; sink = refl };
           rest = rest_still env before at flush (Err status) (inr (status, refl));
           time = λ modelled. omega arith;
@@ -203,6 +205,7 @@ module _ {E C FP F P : Type 0} {B : Boxed} {keys : InternalOrder C} {key_filters
           memory = refl;
           snapshots = refl;
           looks = refl;
+          removal = refl;
           options = record { rest = refl; sink = refl };
           rest = rest_still env before at close (Err status) (inr (status, refl));
           time = λ modelled. omega arith;
@@ -305,6 +308,7 @@ module _ {E C FP F P : Type 0} {B : Boxed} {keys : InternalOrder C} {key_filters
           memory = sync_only env before from opened value mid result syncs;
           snapshots = refl;
           looks = refl;
+          removal = refl;
           options = sync_tells result m syncs;
           rest = rest_synced env before from opened value mid result syncs flush log_is_data tt
               (inl (λ held. refl)) m;
@@ -333,6 +337,7 @@ module _ {E C FP F P : Type 0} {B : Boxed} {keys : InternalOrder C} {key_filters
           memory = sync_only env before from opened value mid (Err status) syncs;
           snapshots = refl;
           looks = refl;
+          removal = refl;
           options = sync_tells (Err status) machine.broken syncs;
           rest = rest_synced env before from opened value mid (Err status) syncs close log_is_data tt
               (inr (status, refl)) machine.broken;
@@ -376,6 +381,7 @@ module _ {E C FP F P : Type 0} {B : Boxed} {keys : InternalOrder C} {key_filters
             memory = sync_only env before from opened value mid (Ok tt) syncs;
             snapshots = refl;
             looks = refl;
+            removal = refl;
             options = sync_tells (Ok tt) machine.broken syncs;
             rest = rest_given env before from opened value mid (Ok tt) syncs to lock lock_is
                 (Err status) does locks machine.broken;
@@ -409,6 +415,7 @@ module _ {E C FP F P : Type 0} {B : Boxed} {keys : InternalOrder C} {key_filters
             memory = sync_only env before from opened value mid (Ok tt) syncs;
             snapshots = refl;
             looks = refl;
+            removal = refl;
             options = sync_tells (Ok tt) machine.closed syncs;
             rest = rest_given env before from opened value mid (Ok tt) syncs to lock lock_is (Ok tt)
                 does locks machine.closed;
@@ -459,7 +466,7 @@ module _ {E C FP F P : Type 0} {B : Boxed} {keys : InternalOrder C} {key_filters
           step = step;
           refused_by_mode = λ refused_by_mode. (refl, refl, inl why);
           way = inl (refl, refl, inl why);
-          reads = (refl, refl, refl);
+          reads = (refl, refl, refl, refl);
           snapshots = refl;
           options = record { rest = refl; sink = refl };
           rest = rest_still env before from (get snapshot key) (Err status) (inr (status, refl));
@@ -480,7 +487,7 @@ module _ {E C FP F P : Type 0} {B : Boxed} {keys : InternalOrder C} {key_filters
             step = step;
             refused_by_mode = λ refused_by_mode. absurd (usable refused_by_mode);
             way = inl (refl, refl, inr (inl (code, misfits)));
-            reads = (refl, refl, refl);
+            reads = (refl, refl, refl, refl);
             snapshots = refl;
             options = record { rest = refl; sink = refl };
             rest = rest_still env before from (get snapshot key) (Err status) (inr (status, refl));
@@ -509,7 +516,7 @@ module _ {E C FP F P : Type 0} {B : Boxed} {keys : InternalOrder C} {key_filters
             step = step;
             refused_by_mode = λ refused_by_mode. absurd (usable refused_by_mode);
             way = inr (sequence, reads, looks.way);
-            reads = (refl, same, refl);
+            reads = (refl, same, refl, refl);
             snapshots = refl;
             options = record {
               rest = ap (λ (v : OpenStoreValue C). record before.options { cmp = v.cmp }) same;

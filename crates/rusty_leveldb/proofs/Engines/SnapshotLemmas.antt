@@ -307,7 +307,7 @@ module _ {E C FP F P : Type 0} {B : Boxed} {keys : InternalOrder C} {key_filters
           step = given_step at;
           still = refl;
           refused_by_mode = λ refused_by_mode. absurd (usable refused_by_mode);
-          reads = (refl, refl, refl);
+          reads = (refl, refl, refl, refl);
           snapshots = gives;
           options = record { rest = refl; sink = refl };
           rest = rest_held get_snapshot tt (Ok one) snapshots at;
@@ -328,7 +328,7 @@ module _ {E C FP F P : Type 0} {B : Boxed} {keys : InternalOrder C} {key_filters
         step = step;
         still = refl;
         refused_by_mode = λ refused_by_mode. (refl, refl, inl out);
-        reads = (refl, refl, refl);
+        reads = (refl, refl, refl, refl);
         snapshots = refl;
         options = record { rest = refl; sink = refl };
         rest = rest_still env before at get_snapshot (Err status) (inr (status, refl));
@@ -359,7 +359,7 @@ module _ {E C FP F P : Type 0} {B : Boxed} {keys : InternalOrder C} {key_filters
         step = step;
         still = refl;
         refused_by_mode = λ refused_by_mode. absurd (usable refused_by_mode);
-        reads = (refl, refl, refl);
+        reads = (refl, refl, refl, refl);
         snapshots = refl;
         options = record { rest = refl; sink = refl };
         rest = rest_still env before at get_snapshot (Err status) (inr (status, refl));
@@ -382,7 +382,7 @@ module _ {E C FP F P : Type 0} {B : Boxed} {keys : InternalOrder C} {key_filters
         step = step;
         still = refl;
         refused_by_mode = λ refused_by_mode. (refl, refl, inl out);
-        reads = (refl, refl, refl);
+        reads = (refl, refl, refl, refl);
         snapshots = refl;
         options = record { rest = refl; sink = refl };
         rest = rest_still env before at request (Err status) (inr (status, refl));
@@ -411,7 +411,7 @@ module _ {E C FP F P : Type 0} {B : Boxed} {keys : InternalOrder C} {key_filters
         step = step;
         still = refl;
         refused_by_mode = λ refused_by_mode. absurd (usable refused_by_mode);
-        reads = (refl, refl, refl);
+        reads = (refl, refl, refl, refl);
         snapshots = refl;
         options = record { rest = refl; sink = refl };
         rest = rest_still env before at request (Err status) (inr (status, refl));
@@ -492,7 +492,7 @@ module _ {E C FP F P : Type 0} {B : Boxed} {keys : InternalOrder C} {key_filters
           step = left_step at;
           still = refl;
           refused_by_mode = λ refused_by_mode. absurd (usable refused_by_mode);
-          reads = (refl, refl, refl);
+          reads = (refl, refl, refl, refl);
           snapshots = releases;
           options = record { rest = refl; sink = refl };
           rest = rest_held (release_snapshot (snapshot_of one)) tt (Ok tt) snapshots at;

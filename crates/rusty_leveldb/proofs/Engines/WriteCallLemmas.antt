@@ -37,6 +37,7 @@ use Rattle.rusty_leveldb.proofs.Engines.NoneDueLemmas.{none_due_again}
 use Rattle.rusty_leveldb.proofs.Engines.RestLemmas.{rest_roomless, rest_still, rest_written}
 use Rattle.rusty_leveldb.proofs.Engines.RowLemmas.{write_row}
 use Rattle.rusty_leveldb.proofs.Engines.SyncLemmas.{log_is_there}
+use Rattle.rusty_leveldb.proofs.Engines.TidyLemmas.{batch_tidied}
 use Rattle.rusty_leveldb.proofs.Engines.WritingLemmas.{batch_tells, failed_later, room_fails, room_tells, write_done, write_fails}
 
 -- ---- a memtable that is full
@@ -121,6 +122,7 @@ module _ {E C FP F P : Type 0} {B : Boxed} {keys : InternalOrder C} {key_filters
         again = λ room. inr refl;
         failed = (inr refl, (refl, λ room. (refl, refl)));
         entries = kept_as_they_are env (formats (engine_options before)) before.store from;
+        tidy = inr (refl, tt);
         breaks = inr (inl refl);
         snapshots = refl;
         options = record { rest = refl; sink = refl };
@@ -165,6 +167,7 @@ module _ {E C FP F P : Type 0} {B : Boxed} {keys : InternalOrder C} {key_filters
               (room_tells env choices before from (Err status) after to made));
           failed = (becomes after made.mode, memory);
           entries = made.makes.entries;
+          tidy = made.tidy;
           breaks = inr (inr (inl made));
           snapshots = ap (λ (e : EngineOf E C FP F B). e.snapshots) made.rest;
           options = room_tells env choices before from (Err status) after to made;
@@ -483,6 +486,7 @@ module _ {E C FP F P : Type 0} {B : Boxed} {keys : InternalOrder C} {key_filters
             again = batch_again result writes_in;
             failed = batch_failed result writes_in;
             entries = batch_entries result writes_in;
+            tidy = batch_tidied env before from roomy mid made.tidy result value mode to writes_in;
             breaks = batch_breaks result writes_in;
             snapshots = ap (λ (e : EngineOf E C FP F B). e.snapshots) made.rest;
             options = batch_tells env choices before from roomy mid made value

@@ -15,6 +15,7 @@ use Rattle.leveldb_version_set.specs.Sets.VersionSetValue.{VersionSetValue}
 use Rattle.leveldb_version.specs.declared.table_cache.TableCache.{TableCache}
 use Rattle.leveldb_store.proofs.Keeping.KeptFilesLemmas.{keeping, opens_keeping}
 use Rattle.leveldb_store.proofs.Openings.EndedLemmas.{ended_aside, ended_bytes, ended_files, ended_keeps, ended_later, ended_locks, ended_open, ended_time}
+use Rattle.leveldb_store.proofs.Writing.RemovalLemmas.{leaves_since}
 use Rattle.leveldb_store.specs.Tables.BuildTable.{TableChoices}
 use Rattle.leveldb_store.specs.Compactions.Compact.{FailsToMerge, KeepsCompacted}
 use Rattle.leveldb_store.specs.Openings.EndsOpening.{EndsOpening}
@@ -28,6 +29,7 @@ use Rattle.leveldb_store.specs.Keeping.SoundCall.{BytesAreAppended}
 use Rattle.leveldb_store.specs.Keeping.SetAside.{IsAsidePath}
 use Rattle.leveldb_store.specs.Keeping.Written.{IsDataPath}
 use Rattle.leveldb_store.specs.Keeping.WrittenFrom.{KeepsWrittenFrom}
+use Rattle.leveldb_store.specs.Writing.Removal.{LeavesObsolete}
 use Rattle.rusty_leveldb.specs.Engines.Boxes.{EngineOf, InternalOrder}
 use Rattle.rusty_leveldb.specs.Engines.Calls.{EngineOpens}
 use Rattle.rusty_leveldb.specs.Engines.Engine.{AnswersAs, formats_of, HasOwnTables, IsOpening, IsStoreName, Recalls, no_engine, engine_options, scene, tables_by}
@@ -277,8 +279,9 @@ module _ {E C FP F P : Type 0} {B : Boxed} {keys : InternalOrder C} {key_filters
   stepped opening is meaning agrees modelled old was =
       done_goes modelled opening is meaning agrees old was
 
-  pub done_opens : EngineOpens env choices store options asked from (Ok engine) to
-  done_opens = record {
+  pub done_opens : LeavesObsolete env opened engine.store engine.removal to
+      → EngineOpens env choices store options asked from (Ok engine) to
+  done_opens left = record {
     ok = λ opening is meaning agrees. open_row keys env formats store opening meaning from to engine
         (stepped opening is meaning agrees);
     err = tt;
@@ -303,6 +306,7 @@ module _ {E C FP F P : Type 0} {B : Boxed} {keys : InternalOrder C} {key_filters
           asked.error_if_exists taken n (Ok first) opened) is_limit opens_first;
       ends = ends;
     };
+    tidy = leaves_since env (opens_count ∙ counted) left;
     held = λ modelled. (
       λ was_held. let never : true ≡ false = sym was_held ∙ (took modelled).was_free in cc,
       lock_held modelled,

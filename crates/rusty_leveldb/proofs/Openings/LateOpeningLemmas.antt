@@ -402,6 +402,7 @@ module _ {E C FP F P : Type 0} {B : Boxed} {keys : InternalOrder C} {key_filters
     found = tt;
     opened = tt;
     ends = tt;
+    tidy = tt;
     held = tt;
     others = spares;
     aside = λ modelled path is some.

@@ -157,6 +157,7 @@ module _ {E C FP F P : Type 0} {B : Boxed} {keys : InternalOrder C} {key_filters
     found = tt;
     opened = tt;
     ends = tt;
+    tidy = tt;
     held = tt;
     others = λ modelled. near_others (near modelled);
     aside = λ modelled. made_aside store (env.observed from).disk.files

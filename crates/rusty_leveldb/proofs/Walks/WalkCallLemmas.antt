@@ -45,7 +45,7 @@ module _ {E C FP F P : Type 0} {B : Boxed} {keys : InternalOrder C} {key_filters
         err = row.1;
         step = step;
         refused_by_mode = refused_by_mode;
-        reads = (refl, refl, refl);
+        reads = (refl, refl, refl, refl);
         snapshots = refl;
         options = record { rest = refl; sink = refl };
         rest = rest_still env before from (walk_of at moves) (Err status) (inr (status, refl));
@@ -109,7 +109,7 @@ module _ {E C FP F P : Type 0} {B : Boxed} {keys : InternalOrder C} {key_filters
             err = row.1;
             step = step;
             refused_by_mode = λ refused_by_mode. absurd (usable refused_by_mode);
-            reads = (refl, refl, refl);
+            reads = (refl, refl, refl, refl);
             snapshots = refl;
             options = record { rest = refl; sink = refl };
             rest = record {

@@ -17,17 +17,19 @@ use Rattle.leveldb_version.specs.declared.table_cache.TableCache.{TableCache}
 use Rattle.rusty_leveldb.specs.Engines.Boxes.{EngineOf, InternalOrder}
 use Rattle.rusty_leveldb.specs.Engines.Engine.{formats_of, engine_options, tables_by}
 use Rattle.rusty_leveldb.specs.Engines.EngineValue.{FollowsStore}
+use Rattle.rusty_leveldb.specs.Engines.Tidy.{TidiesOrKeeps}
 use Rattle.rusty_leveldb.specs.Machines.State.{Opening}
 use Rattle.rusty_leveldb.specs.Openings.Unopened.{MakesLockAlone}
 
--- nothing of an engine changes but its store, the open tables, the mode, and the sink of the
--- options' log
+-- nothing of an engine changes but its store, the open tables, what the last removal returned, the
+-- mode, and the sink of the options' log
 abbrev pub ChangesStore : {E C FP F : Type 0} {B : Boxed} → EngineOf E C FP F B
     → EngineOf E C FP F B → Type 0
 ChangesStore before after = after ≡ record before {
   store = after.store;
   options = record (engine_options before) { log = after.options.log };
   tables = after.tables;
+  removal = after.removal;
   mode = after.mode;
 }
 
@@ -46,6 +48,8 @@ pub record EngineCompactsStore {E C FP F P : Type 0} {B : Boxed} {keys : Interna
   -- what was in memory is there, or was in a table before anything was compacted
   pub entries : CompactsMemtables env (formats_of choices (engine_options before)) before.store from
       after.store to
+  -- obsolete files were removed, or nothing was done
+  pub tidy : TidiesOrKeeps env before from result after to
   -- nothing else of the engine changes but the sink of the options' log, and its mode
   pub rest : ChangesStore before after
   -- it is broken where the store is

@@ -22,6 +22,7 @@ use Rattle.leveldb_store.specs.Logs.FoundLogs.{HasLogNotKept}
 use Rattle.leveldb_store.specs.Keeping.KeptBytes.{LosesNothing, SparesKept}
 use Rattle.leveldb_store.specs.Keeping.KeptEntries.{CompactsMemtables}
 use Rattle.leveldb_store.specs.Reading.Read.{GetsFromMemory, GetsFromTables}
+use Rattle.leveldb_store.specs.Writing.Removal.{LeavesObsolete}
 use Rattle.leveldb_store.specs.Writing.Room.{FailsFor, IsFull, ChangesLoggerOnly}
 use Rattle.leveldb_store.specs.Keeping.SoundCall.{TimeGoesOn}
 use Rattle.leveldb_store.specs.Reading.View.{MoveFails, WalksStore}
@@ -37,6 +38,7 @@ use Rattle.rusty_leveldb.specs.Engines.Serves.{AreReadAs, done_or, found_or, giv
 use Rattle.rusty_leveldb.specs.Engines.Engine.{IsClosed, IsBroken, IsClosedOrBroken, IsEngineSequence, RefusedByMode, AnswersAs, Answers, WriteExcused, SyncExcused, CloseExcused, CompactExcused, GetExcused, GetFails, SnapshotExcused, ReleaseExcused, WalkExcused, IsStoreName, IsOpening, HasOwnLock, WriteMovesLookedAt, formats_of, holds_lock, engine_options, has_compaction_due, tables_by}
 use Rattle.rusty_leveldb.specs.Engines.Frame.{IsOwn, IsSyncing, KeepsAside, MayTouchOrLog, SameBytes, Spares}
 use Rattle.rusty_leveldb.specs.Machines.Machine.{AllDurable, Closes, Gives, Keeps, Opens, Releases, Writes, risk_of}
+use Rattle.rusty_leveldb.specs.Engines.Tidy.{TidiesOrKeeps}
 use Rattle.rusty_leveldb.specs.Engines.Room.{EngineMakesRoom, LogsIfDue, LogsRoom, KeepsOrCompacts, entries_added}
 use Rattle.rusty_leveldb.specs.Engines.Rows.{FindsValue, FromEachState, FromStatesOf, IsAbandoned, NotClosed, NotCompacted, NotFlushed, NotOpened, NotUnlocked, NotWritten, RepresentsAt, Row, StaysAsItWas, WalksView}
 use Rattle.rusty_leveldb.specs.Openings.Unopened.{IsLockGivenBack, IsLockHeld, MakesLockAlone, NeverOpens, OpenExcused}
@@ -95,11 +97,12 @@ module _ {E C FP F : Type 0} {B : Boxed} (env : Ghosts E F) where
 
 module _ {E C FP F : Type 0} {B : Boxed} where
   -- what a read leaves of an engine: its mode, its store but for the version (of which a look-up
-  -- charges a file with a seek, and may choose it), and when a compaction was last looked for
+  -- charges a file with a seek, and may choose it), when a compaction was last looked for, and what
+  -- the last removal of obsolete files returned
   abbrev pub IsReadOnly : EngineOf E C FP F B → EngineOf E C FP F B → Type 0
   IsReadOnly before after = (after.mode ≡ before.mode)
       × (after.store ≡ record before.store { current = after.store.current })
-      × (after.looked_at ≡ before.looked_at)
+      × (after.looked_at ≡ before.looked_at) × (after.removal ≡ before.removal)
 
   -- its mode is as before, or the call broke it
   abbrev pub KeepsModeOrBreaks : EngineOf E C FP F B → EngineOf E C FP F B → Type 0
@@ -218,6 +221,9 @@ module _ {E C FP F P : Type 0} {B : Boxed} {keys : InternalOrder C} {key_filters
     -- is in memory, or in tables that were added, of which one compaction may have taken some
     pub entries : KeepsOrCompacts env (formats_of choices (engine_options before))
         (entries_added result (next_batch before.store items)) before.store from after.store to
+    -- Ok: where obsolete files may have been made, they were removed, and the engine has what that
+    -- returned
+    pub tidy : TidiesOrKeeps env before from result after to
     -- an Err came before any call for the batch, and for a cause, or broke the store
     pub breaks : IfErr result (λ e. IsBroken after.mode ⊎ AppendsNothing items e after to)
     -- the same snapshots are held, and the options stay, but for the sink of their log
@@ -249,6 +255,8 @@ module _ {E C FP F P : Type 0} {B : Boxed} {keys : InternalOrder C} {key_filters
     pub snapshots : after.snapshots ≡ before.snapshots
     -- when a compaction was last looked for
     pub looks : after.looked_at ≡ before.looked_at
+    -- what the last removal of obsolete files returned
+    pub removal : after.removal ≡ before.removal
     pub options : ChangesLoggerOnly (engine_options before) (engine_options after)
     pub rest : LeavesRest env before from flush result after to
     pub time : TimeGoesOn env from to
@@ -296,6 +304,9 @@ module _ {E C FP F P : Type 0} {B : Boxed} {keys : InternalOrder C} {key_filters
     pub snapshots : after.snapshots ≡ before.snapshots
     -- when a compaction was last looked for
     pub looks : after.looked_at ≡ before.looked_at
+    -- Ok: where obsolete files may have been made, they were removed, and the engine has what that
+    -- returned
+    pub tidy : TidiesOrKeeps env before from result after to
     pub options : ChangesLoggerOnly (engine_options before) (engine_options after)
     pub rest : LeavesRest env before from (compact_range low high) result after to
     pub time : TimeGoesOn env from to
@@ -422,6 +433,8 @@ module _ {E C FP F P : Type 0} {B : Boxed} {keys : InternalOrder C} {key_filters
     pub snapshots : after.snapshots ≡ before.snapshots
     -- when a compaction was last looked for
     pub looks : after.looked_at ≡ before.looked_at
+    -- what the last removal of obsolete files returned
+    pub removal : after.removal ≡ before.removal
     pub options : ChangesLoggerOnly (engine_options before) (engine_options after)
     pub rest : LeavesRest env before from close result after to
     pub time : TimeGoesOn env from to
@@ -496,6 +509,8 @@ module _ {E C FP F P : Type 0} {B : Boxed} {keys : InternalOrder C} {key_filters
     -- takes a file of that level, unless it fails for a cause.
     pub ends : IfOk result (λ engine. EngineEndsOpening env choices name options asked from engine
         to)
+    -- Ok: obsolete files were removed since it began, and the engine has what that returned
+    pub tidy : IfOk result (λ engine. LeavesObsolete env from engine.store engine.removal to)
     -- the lock was free, and is held
     pub held : OnOk result (IsTrue env.models_disk
         → (IsLockHeld name (env.observed from).disk → ⊥)

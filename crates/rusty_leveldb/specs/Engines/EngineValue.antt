@@ -1,5 +1,6 @@
 -- An engine as clauses see it: what a store that was opened has in memory, and its one mode.
-use Rattle.std.specs.Prelude.{◌≡◌, ◌⊎◌, ℕ, List}
+use Rattle.std.specs.Prelude.{◌≡◌, ◌⊎◌, ℕ, List, Option, None, Some, Result, Ok, Err}
+use Rattle.leveldb_base.specs.declared.error.Status.{Status}
 use Rattle.leveldb_iter.specs.Snapshot.{HeldSnapshots}
 use Rattle.leveldb_store.specs.Keeping.OpenStore.{IsUnbroken, OpenStoreValue}
 use Rattle.rusty_leveldb.specs.declared.db_impl.engine.Mode.{Mode}
@@ -18,8 +19,18 @@ pub record EngineValue (C O T : Type 0) : Type 0 where
   pub snapshots : HeldSnapshots
   -- how much memory its memtable took when a write last looked for a compaction
   pub looked_at : ℕ
+  -- what the last removal of obsolete files returned
+  pub removal : Result (Unit {0}) Status
   -- open, broken or closed
   pub mode : machine.Mode
+
+-- What the last removal of obsolete files returned, after a call that returned this: that of the
+-- call, if it is Ok and did one, and else the one before.
+abbrev pub removal_after : Result (Unit {0}) Status
+    → Result (Option (Result (Unit {0}) Status)) Status → Result (Unit {0}) Status
+removal_after last (Ok (Some removal)) = removal
+removal_after last (Ok None) = last
+removal_after last (Err status) = last
 
 -- the mode that an engine keeps, as the machine has it
 abbrev pub mode_of : Mode → machine.Mode

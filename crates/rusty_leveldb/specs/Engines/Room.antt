@@ -27,6 +27,7 @@ use Rattle.rusty_leveldb.specs.Engines.Boxes.{EngineOf, InternalOrder}
 use Rattle.rusty_leveldb.specs.Compactions.Compact.{ChangesStore}
 use Rattle.rusty_leveldb.specs.Engines.Engine.{WriteMovesLookedAt, engine_options, formats_of, has_compaction_due, tables_by}
 use Rattle.rusty_leveldb.specs.Engines.EngineValue.{FollowsStore}
+use Rattle.rusty_leveldb.specs.Engines.Tidy.{TidiesOrKeeps}
 
 -- What was logged: tables of memtables, which take no file away, and then at most one edit of a
 -- compaction, which takes one from a level. Where the score of a level asks for a compaction in the
@@ -118,6 +119,8 @@ pub record EngineMakesRoom {E C FP F P : Type 0} {B : Boxed} {keys : InternalOrd
       before.tables (choices (engine_options before)) before.options.write_buffer_size smallest
       (has_compaction_due before) result after.store to after.tables
   pub looks : WriteMovesLookedAt before after
+  -- obsolete files were removed, or nothing was done
+  pub tidy : TidiesOrKeeps env before from result after to
   -- nothing else of the engine changes but the sink of the options' log, and its mode
   pub rest : ChangesStore (record before { looked_at = after.looked_at }) after
   pub sink : is_some after.options.log ≡ is_some before.options.log

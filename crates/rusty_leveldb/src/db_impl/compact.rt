@@ -6,7 +6,7 @@ ghost use Rattle.rusty_leveldb.specs.Engines.Calls.{EngineCompacts};
 ghost use Rattle.rusty_leveldb.specs.Compactions.Compact.{EngineCompactsStore};
 ghost use Rattle.rusty_leveldb.specs.Machines.State.{open_mode};
 
-use super::engine::{Engine, mode_by};
+use super::engine::{Engine, keep_removal, mode_by};
 use leveldb_base::cmp::{Cmp, InternalKeyCmp, UserCmp};
 use leveldb_base::error::Result;
 use leveldb_base::key_types::check_key_size;
@@ -57,6 +57,6 @@ impl<E: Env, C: UserCmp + Copy, FP: FilterPolicy + Copy> Engine<E, C, FP> {
         );
         self.options.log = log;
         self.mode = mode_by(&self.store);
-        compacted
+        keep_removal(&mut self.removal, compacted)
     }
 }

@@ -5,8 +5,9 @@ ghost use Rattle.leveldb_base.specs.History.{Item};
 ghost use Rattle.rusty_leveldb.specs.Machines.State.{open_mode, write, refused};
 ghost use Rattle.rusty_leveldb.specs.Engines.Serves.{refusal_of};
 ghost use Rattle.rusty_leveldb.specs.Engines.Engine.{IsClosed, RefusedAsClosed, RefusedByMode, AnswersStill};
-ghost use Rattle.rusty_leveldb.specs.Engines.EngineValue.{FollowsStore, mode_of};
+ghost use Rattle.rusty_leveldb.specs.Engines.EngineValue.{FollowsStore, mode_of, removal_after};
 ghost use Rattle.leveldb_store.specs.Keeping.OpenStore.{IsUnbroken};
+ghost use Rattle.leveldb_store.specs.Writing.Removal.{but_removal};
 ghost use Rattle.leveldb_files.specs.Stores.Format.{format_of};
 
 use crate::read_samples::ReadSamples;
@@ -17,7 +18,7 @@ use leveldb_env::env::Env;
 use leveldb_env::filter::FilterPolicy;
 use leveldb_env::options::Options;
 use leveldb_iter::snapshot::SnapshotList;
-use leveldb_store::open_store::OpenStore;
+use leveldb_store::open_store::{OpenStore, Removal};
 use leveldb_version::table_cache::TableCache;
 use std::alloc::Global;
 use std::marker::{Model, PhantomData};
@@ -53,6 +54,8 @@ pub struct Engine<E: Env, C: Cmp, FP, O = Options<C, FP>, T = TableCache<E, C, F
     pub(crate) samples: ReadSamples,
     // How much memory the memtable took when a write last looked for a compaction.
     pub(crate) looked_at: usize,
+    // What the last removal of obsolete files returned.
+    pub(crate) removal: Result<()>,
     pub(crate) mode: Mode,
 }
 
@@ -69,6 +72,7 @@ impl<E: Env, C: Cmp + Drop, FP: Drop, O: Drop, T: Drop> Drop for Engine<E, C, FP
             snapshots,
             samples,
             looked_at: _,
+            removal,
             mode: _,
         } = self;
         drop(options);
@@ -77,6 +81,7 @@ impl<E: Env, C: Cmp + Drop, FP: Drop, O: Drop, T: Drop> Drop for Engine<E, C, FP
         drop(tables);
         drop(snapshots);
         drop(samples);
+        drop(removal);
     }
 }
 
@@ -93,6 +98,7 @@ impl<E: Env, C: Cmp, FP, O, T> Model for Engine<E, C, FP, O, T> {
       tables = it.tables;
       snapshots = it.snapshots;
       looked_at = it.looked_at;
+      removal = it.removal;
       mode = mode_of it.mode;
     } };
 
@@ -111,7 +117,32 @@ pub(super) fn mode_by<E: Env, C: UserCmp + Copy>(store: &OpenStore<E, C>) -> Mod
     }
 }
 
+// Keeps what the last removal of obsolete files in a call returned, if the call is Ok and did one.
+pub(super) fn keep_removal(last: &mut Result<()>, done: Result<Removal>) -> Result<()>
+    ensures done { result ≡ but_removal done }
+    ensures kept { last.new ≡ removal_after last.old done }
+{
+    match done {
+        Ok(Some(removal)) => {
+            *last = removal;
+            Ok(())
+        }
+        Ok(None) => Ok(()),
+        Err(status) => Err(status),
+    }
+}
+
 impl<E: Env, C: UserCmp + Copy, FP: FilterPolicy + Copy> Engine<E, C, FP> {
+    /// What the last removal of obsolete files returned: that of the opening, or of the last call
+    /// that wrote or compacted, made files obsolete and removed them. Where it is Ok, none was
+    /// left then, but those that are kept. Where it is an Err, some may be, and the next removal
+    /// deletes them: memory was out, or a call of the device failed. Nothing reads such a file.
+    pub fn last_removal(&self) -> &Result<()>
+        ensures { result.now ≡ self.now.removal }
+    {
+        &self.removal
+    }
+
     /// Whether it may be written to; if not, this fails as every write does.
     pub fn check_writable(&self) -> Result<()>
         ensures ok { OnOk result (self.now.mode ≡ open_mode) }

@@ -56,10 +56,13 @@ impl<E: Env, C: UserCmp + Copy, FP: FilterPolicy + Copy> Engine<E, C, FP> {
                 let mut log = options.log.take();
                 let ended = store.end_opening(env, &options, &mut tables, &mut log);
                 options.log = log;
-                if let Err(status) = ended {
-                    let _ = give_back(env, &lock);
-                    return Err(status);
-                }
+                let removal = match ended {
+                    Ok(removal) => removal,
+                    Err(e) => {
+                        let _ = give_back(env, &lock);
+                        return Err(e);
+                    }
+                };
                 Ok(Engine {
                     alloc,
                     options,
@@ -70,6 +73,7 @@ impl<E: Env, C: UserCmp + Copy, FP: FilterPolicy + Copy> Engine<E, C, FP> {
                     snapshots: SnapshotList::new(alloc),
                     samples: ReadSamples::new(alloc),
                     looked_at: 0,
+                    removal,
                     mode: Mode::Open,
                 })
             }

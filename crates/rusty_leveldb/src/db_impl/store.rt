@@ -244,6 +244,13 @@ impl<'e, E: Env, C: UserCmp + Copy, FP: FilterPolicy + Copy> Store<'e, E, Engine
         self.state.compact_range(&mut *self.env, from, to)
     }
 
+    /// What the last removal of obsolete files returned, as `Engine::last_removal` says it.
+    pub fn last_removal(&self) -> &Result<()>
+        ensures { result.now ≡ self.now.state.removal }
+    {
+        self.state.last_removal()
+    }
+
     /// Returns the key's value, or none if it has none. A broken store is read, too.
     ///
     /// Ok: the value that the history's map has (`FindsValue`).

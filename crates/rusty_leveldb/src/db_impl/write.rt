@@ -1,16 +1,17 @@
 //! Writing to a store: batches, and syncs of its log.
 // LevelDB: db/db_impl.cc, DBImpl::Write
-ghost use Rattle.std.specs.Prelude.{◌≡◌, ◌∷◌, [], Some, None, false, is_some};
+ghost use Rattle.std.specs.Prelude.{◌≡◌, ◌∷◌, [], Some, None, IfOk, false, is_some};
 ghost use Rattle.leveldb_mem.specs.WriteBatch.{item_of};
 ghost use Rattle.rusty_leveldb.specs.Machines.State.{open_mode};
 ghost use Rattle.leveldb_store.specs.Tables.BuildTable.{choices_of};
 ghost use Rattle.leveldb_version.specs.Tables.TableCache.{table_options};
 ghost use Rattle.leveldb_store.specs.Keeping.OpenStore.{IsUnbroken};
 ghost use Rattle.leveldb_store.specs.Writing.Due.{MovesLookedAt, is_compaction_due};
+ghost use Rattle.leveldb_store.specs.Writing.Removal.{EndsByRemoval, but_removal};
 ghost use Rattle.rusty_leveldb.specs.Engines.Calls.{EngineFlushes, EngineWrites};
 ghost use Rattle.rusty_leveldb.specs.Engines.Room.{EngineMakesRoom, StoreMakesRoom};
 
-use super::engine::{Engine, mode_by};
+use super::engine::{Engine, keep_removal, mode_by};
 use crate::read_samples::ReadSamples;
 use leveldb_base::cmp::{Cmp, InternalKeyCmp, UserCmp};
 use leveldb_base::error::Result;
@@ -21,7 +22,7 @@ use leveldb_env::filter::{FilterPolicy, InternalFilterPolicy};
 use leveldb_env::infolog::Logger;
 use leveldb_env::options::Options;
 use leveldb_mem::write_batch::WriteBatch;
-use leveldb_store::open_store::OpenStore;
+use leveldb_store::open_store::{OpenStore, Removal};
 use leveldb_version::table_cache::TableCache;
 
 impl<E: Env, C: UserCmp + Copy, FP: FilterPolicy + Copy> Engine<E, C, FP> {
@@ -98,7 +99,7 @@ impl<E: Env, C: UserCmp + Copy, FP: FilterPolicy + Copy> Engine<E, C, FP> {
         );
         self.options.log = log;
         self.mode = mode_by(&self.store);
-        made
+        keep_removal(&mut self.removal, made)
     }
 
     /// Makes all batches durable. `DB::flush` says what each result means.
@@ -118,7 +119,7 @@ impl<E: Env, C: UserCmp + Copy, FP: FilterPolicy + Copy> Engine<E, C, FP> {
 // Makes room in the memtable of a store, where it is full. Then the files are charged that samples
 // charge, and the compaction is done for which the store asks. Where it isn't full, one is looked
 // for once for each part by which it grows, also where it fails then. What the removal of obsolete
-// files fails of is a line for `log`.
+// files fails of is a line for `log`, and an Ok has what the last one returned.
 fn room_in<E: Env, C: UserCmp + Copy + Drop, FP: FilterPolicy + Copy + Drop>(
     store: &mut OpenStore<E, C>,
     env: &mut E,
@@ -128,7 +129,7 @@ fn room_in<E: Env, C: UserCmp + Copy + Drop, FP: FilterPolicy + Copy + Drop>(
     looked_at: &mut usize,
     smallest: SequenceNumber,
     log: &mut Option<Logger>,
-) -> Result<()>
+) -> Result<Removal>
     requires usable { IsUnbroken store.old }
     requires order { C.cmp options.now.cmp ≡ C.cmp store.old.cmp }
     ensures makes { let choices = choices_of C.Cmp FP.FilterPolicy
@@ -137,20 +138,23 @@ fn room_in<E: Env, C: UserCmp + Copy + Drop, FP: FilterPolicy + Copy + Drop>(
         StoreMakesRoom ⟦<InternalKeyCmp<C> as Cmp>⟧ E.Env
         (table_options choices.format options.now) store.old env.old tables.old choices
         options.now.write_buffer_size smallest
-        (is_compaction_due options.now.max_file_size looked_at.old store.old) result store.new
-        env.new tables.new }
+        (is_compaction_due options.now.max_file_size looked_at.old store.old) (but_removal result)
+        store.new env.new tables.new }
     ensures looks { MovesLookedAt options.now.write_buffer_size options.now.max_file_size store.old
         looked_at.old looked_at.new }
+    ensures removes { IfOk result (λ removal.
+        EndsByRemoval E.Env env.old store.old removal store.new env.new) }
     ensures log { is_some log.new ≡ is_some log.old }
 {
     if !store.is_full(options.write_buffer_size) {
         if !store.look_for_compaction(options.max_file_size, looked_at) {
-            return Ok(());
+            return Ok(None);
         }
         return store.compact_if_asked(env, options, tables, smallest, log);
     }
     *looked_at = 0;
-    let _ = store.make_room(env, options, tables, log)?;
+    let made = store.make_room(env, options, tables, log)?;
     samples.charge(store);
-    store.compact_if_asked(env, options, tables, smallest, log)
+    let compacted = store.compact_if_asked(env, options, tables, smallest, log)?;
+    Ok(compacted.or(made))
 }

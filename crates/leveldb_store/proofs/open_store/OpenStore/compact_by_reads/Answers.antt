@@ -5,7 +5,9 @@ use Rattle.leveldb_store.proofs.Compactions.AskedCompactionLemmas.{logs_picked, 
 use Rattle.leveldb_store.proofs.Compactions.CompactedLemmas.{failed_at_once}
 use Rattle.leveldb_store.proofs.Compactions.CompactsOnceLemmas.{none_compacted}
 use Rattle.leveldb_store.proofs.Keeping.KeptBytesLemmas.{meanwhile_none}
+use Rattle.leveldb_store.proofs.Writing.RemovalLemmas.{on_ok_by}
 use Rattle.leveldb_store.specs.Keeping.OpenStore.{OpenStoreValue}
+use Rattle.leveldb_store.specs.Writing.Removal.{but_removal}
 use Rattle.leveldb_store.proofs.open_store.OpenStore.compact_by_reads.Goals as goal
 
 pub returns-in_err-picked : goal.returns-in_err-picked
@@ -18,6 +20,7 @@ returns-in_err-picked g c =
         memory = refl;
       };
       asked = tt;
+      removes = tt;
       keeps = record {
         once = none_compacted _ g.E.Env.models_disk c.args.self.now (g.E.Env.observed c.args.env.now);
         kept = λ modelled below. meanwhile_none g.E.Env c.args.self.now.set.store c.args.env.now;
@@ -45,5 +48,7 @@ returns-clause-asked g c =
     let versions = c.self.inside.versions in
     let asked = subst (λ k. IsAskedByReads (g.C.Cmp.cmp k) versions.current size picked) c.self.invariant.8 c.in_ok-picked.ensures.ok in
     let here = subst (λ (v : OpenStoreValue g.row.C.Denot). IsAskedByReads (g.C.Cmp.cmp v.cmp) v.current size picked) c.self.view_is asked in
-    IfOk-weaker c.compact_picked.result _ _ (λ unit logs. (picked, here, logs))
-    (logs_picked (g.C.Cmp.cmp c.args.self.now.cmp) c.args.self.now c.compact_picked.new.self picked c.compact_picked.result done.does.logged (λ none. (done.does.none none).1))
+    let result = but_removal c.compact_picked.result in
+    on_ok_by _ c.compact_picked.result
+    (IfOk-weaker result _ _ (λ unit logs. (picked, here, logs))
+    (logs_picked (g.C.Cmp.cmp c.args.self.now.cmp) c.args.self.now c.compact_picked.new.self picked result done.does.logged (λ none. (done.does.none none).1)))

@@ -3,12 +3,13 @@ use Rattle.std.proofs.lemmas.Result.{err_from_is_err_and}
 use Rattle.leveldb_version_set.specs.Sets.CurrentVersion.{IsCurrent}
 use Rattle.leveldb_version_set.specs.Compactions.Inputs.{AreOrdered}
 use Rattle.leveldb_version_set.specs.Compactions.Picking.{IsAskedFor}
-use Rattle.leveldb_store.proofs.Compactions.AskedCompactionLemmas.{compacts_if_asked, picked_ends, picked_may_be}
+use Rattle.leveldb_store.proofs.Compactions.AskedCompactionLemmas.{compacts_if_asked, picked_may_be}
 use Rattle.leveldb_store.proofs.Compactions.CompactedLemmas.{failed_at_once}
 use Rattle.leveldb_store.proofs.Compactions.CompactsOnceLemmas.{none_compacted}
 use Rattle.leveldb_store.proofs.Keeping.CurrentVersionLemmas.{current_by}
 use Rattle.leveldb_store.proofs.Keeping.KeptBytesLemmas.{meanwhile_none}
 use Rattle.leveldb_store.specs.Keeping.OpenStore.{OpenStoreValue}
+use Rattle.leveldb_store.specs.Writing.Removal.{but_removal}
 use Rattle.leveldb_store.proofs.open_store.OpenStore.compact_if_asked.Goals as goal
 
 pub returns-in_err-picked : goal.returns-in_err-picked
@@ -51,10 +52,8 @@ returns-clause-asked g c =
     let here = subst (λ (v : OpenStoreValue g.row.C.Denot). IsAskedFor (g.C.Cmp.cmp v.cmp) v.set.full.pointers v.current size picked) c.self.view_is asked in
     let current = subst (λ (v : OpenStoreValue g.row.C.Denot). IsCurrent (g.C.Cmp.cmp v.cmp) v.cmp v.set v.current) c.self.view_is (current_by g.C.Cmp c.self.invariant.8 c.in_ok-picked.ensures.current) in
     let ordered = subst (λ (v : OpenStoreValue g.row.C.Denot). AreOrdered (g.C.Cmp.cmp v.cmp) v.set.full.added) c.self.view_is c.self.invariant.10.ordered in
-    compacts_if_asked c.args.self.now c.compact_picked.new.self current size picked c.compact_picked.result
+    compacts_if_asked c.args.self.now c.compact_picked.new.self current size picked (but_removal c.compact_picked.result)
     ordered here done.logged (λ none. ((done.none none).0, (done.none none).1)) done.err done.version
 
 pub returns-clause-removes : goal.returns-clause-removes
-returns-clause-removes g c =
-    let done = c.compact_picked.ensures.does in
-    picked_ends _ c.in_ok-picked.picked c.compact_picked.result done.removes (λ none. (done.none none).1)
+returns-clause-removes g c = c.compact_picked.ensures.removes

@@ -29,7 +29,7 @@ returns-then-not-has_imm-clause-imm g c = record {
 }
 
 pub returns-then-not-has_imm-clause-removes : goal.returns-then-not-has_imm-clause-removes
-returns-then-not-has_imm-clause-removes g c = λ waits. absurd (waits (c.if-not-has_imm.ensures.0 refl))
+returns-then-not-has_imm-clause-removes g c = (refl, refl)
 
 pub returns-then-not-has_imm-clause-tables : goal.returns-then-not-has_imm-clause-tables
 returns-then-not-has_imm-clause-tables g c = record {
@@ -92,7 +92,11 @@ returns-clause-imm g c =
     }
 
 pub returns-clause-removes : goal.returns-clause-removes
-returns-clause-removes g c = λ waits. (c.write_level0_table.new.env, c.tidy_up.ensures.removes)
+returns-clause-removes g c = record {
+  at = c.write_level0_table.new.env;
+  later = c.in_ok-write_level0_table.ensures.tables.cause.later;
+  removes = c.tidy_up.ensures.removes;
+}
 
 pub returns-clause-tables : goal.returns-clause-tables
 returns-clause-tables g c =

@@ -1,10 +1,10 @@
 use Rattle.std.proofs.Common.{◌≡◌, ◌∙◌, None, Some, ap, refl, rules, subst, sym}
-use Rattle.std.proofs.lemmas.Result.{err_from_is_err_and}
+use Rattle.std.proofs.lemmas.Result.{IfOk-from_err, err_from_is_err_and}
 use Rattle.leveldb_store.proofs.Compactions.CompactPickedLemmas.{compacted_once, compacted_tidied}
 use Rattle.leveldb_store.proofs.Compactions.CompactedLemmas.{compacts_then, nothing_compacted}
 use Rattle.leveldb_store.proofs.Compactions.CompactsOnceLemmas.{compacted_inputs, compacted_none, none_compacted}
 use Rattle.std.specs.Prelude.{IfSome}
-use Rattle.leveldb_store.specs.Compactions.Compact.{EndsByRemoval, LogsCompaction}
+use Rattle.leveldb_store.specs.Compactions.Compact.{LogsCompaction}
 use Rattle.leveldb_store.proofs.Keeping.KeptBytesLemmas.{meanwhile_none, meanwhile_removed}
 use Rattle.leveldb_store.specs.Keeping.KeptBytes.{AreKept, LosesNoBytesMeanwhile}
 use Rattle.leveldb_store.specs.Keeping.KeptEntries.{CompactsOnceAtMost}
@@ -41,7 +41,6 @@ returns-in_default-clause-compacts g c = record {
 pub returns-in_default-clause-does : goal.returns-in_default-clause-does
 returns-in_default-clause-does g c = record {
   logged = rw c.in_default.is tt;
-  removes = rw c.in_default.is tt;
   none = λ is. (refl, refl, refl, refl);
   err = tt;
   version = tt;
@@ -53,7 +52,6 @@ returns-in_err-compact-clause-does g c =
     rw (p.1, p.2)
     (record {
       logged = tt;
-      removes = tt;
       none = λ none. let never : Some c.in-Some.compaction ≡ None = sym c.in-Some.is ∙ none in absurd (cc never);
       err = search rules;
       version = c.in_err-compact.ensures.compacts.err.1;
@@ -67,11 +65,25 @@ returns-clause-does g c =
     let logged = subst (λ cmp. LogsCompaction cmp c.in-Some.compaction old new) c.requires.order c.in_ok-compact.ensures.compacts.logged.0 in
     record {
       logged = subst (λ picked. IfSome picked (λ it. LogsCompaction order it old new)) (sym c.in-Some.is) logged;
-      removes = subst (λ picked. IfSome picked (λ it. EndsByRemoval g.E.Env new c.tidy_up.new.env)) (sym c.in-Some.is) (c.tidy_up.result, (c.compact.new.env, c.tidy_up.ensures.removes));
       none = λ none. let never : Some c.in-Some.compaction ≡ None = sym c.in-Some.is ∙ none in absurd (cc never);
       err = tt;
       version = tt;
     }
+
+-- ---- the removal
+
+pub returns-in_default-clause-removes : goal.returns-in_default-clause-removes
+returns-in_default-clause-removes g c = (refl, refl)
+
+pub returns-in_err-compact-clause-removes : goal.returns-in_err-compact-clause-removes
+returns-in_err-compact-clause-removes g c = IfOk-from_err c.from_residual.result _ c.from_residual.ensures.0
+
+pub returns-clause-removes : goal.returns-clause-removes
+returns-clause-removes g c = record {
+  at = c.compact.new.env;
+  later = c.in_ok-compact.ensures.compacts.cause.later;
+  removes = c.tidy_up.ensures.removes;
+}
 
 -- ---- what is lost
 

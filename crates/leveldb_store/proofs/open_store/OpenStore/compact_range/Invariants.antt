@@ -8,6 +8,7 @@ use Rattle.leveldb_version.specs.Tables.TableCache.{table_options}
 use Rattle.leveldb_store.specs.Tables.BuildTable.{choices_of}
 use Rattle.leveldb_store.specs.Compactions.Compact.{FailsToCompactRange, KeepsCompacted}
 use Rattle.leveldb_store.specs.Keeping.KeptEntries.{CompactsMemtables}
+use Rattle.leveldb_store.specs.Writing.Removal.{EndsByRemoval}
 use Rattle.leveldb_store.proofs.open_store.OpenStore.compact_range.Given as goal
 
 -- what the compactions so far keep, that nothing is in memory, and which levels are clear
@@ -22,5 +23,6 @@ invariant-loop-level g l =
       tables_made : (l.self.mem.entries ≡ []) × (l.self.imm ≡ None);
       clear : (level : ℕ) → level < l.level → is_overlapped choices.format.order level (named_range l.from l.to) l.self.set.full.added ≡ false;
       entries : CompactsMemtables g.E.Env choices.format l.fn.self l.fn.env l.self l.env;
+      removes : EndsByRemoval g.E.Env l.fn.env l.fn.self l.removal l.self l.env;
       log : is_some l.log ≡ is_some l.fn.log;
     }

@@ -1,4 +1,4 @@
-use Rattle.std.proofs.Common.{◌≡◌, ◌∙◌, None, Ok, Some, ap, false, inl, refl, sym, true}
+use Rattle.std.proofs.Common.{◌∙◌, Ok, ap, arith, inl, refl}
 use Rattle.std.proofs.lemmas.Result.{IfOk-weaker, err_from_is_err_and, IfOk-from_err}
 use Rattle.leveldb_version.specs.Tables.TableCache.{files_at}
 use Rattle.leveldb_store.proofs.Keeping.KeptEntriesLemmas.{entries_same, entries_switched, entries_then}
@@ -6,8 +6,9 @@ use Rattle.leveldb_store.proofs.Keeping.LoggedEditsLemmas.{no_tables, two_tables
 use Rattle.leveldb_store.proofs.Keeping.NoNewEntriesLemmas.{adds_none, adds_none_in_order, steps_add_none, switch_adds_none}
 use Rattle.leveldb_store.proofs.Keeping.OpenTablesLemmas.{closes_after, closes_none, closes_then, no_removal}
 use Rattle.leveldb_store.proofs.Logs.ReplayFilesLemmas.{GivesNumbers-refl}
+use Rattle.leveldb_store.proofs.Writing.RemovalLemmas.{ends_after, table_changes}
 use Rattle.leveldb_store.proofs.Writing.RoomLemmas.{fails_first, no_room_made, room_tried, step_for, step_switched, step_tables_made, usable_switched}
-use Rattle.leveldb_store.specs.Writing.Room.{but_removal}
+use Rattle.leveldb_store.specs.Writing.Removal.{but_removal}
 use Rattle.leveldb_store.proofs.open_store.OpenStore.make_room.Goals as goal
 
 -- ---- room
@@ -98,13 +99,16 @@ returns-clause-sound g c =
 -- ---- the removal
 
 pub returns-then-not-is_full-clause-removes : goal.returns-then-not-is_full-clause-removes
-returns-then-not-is_full-clause-removes g c = λ full. absurd (let never : false ≡ true = c.if-not-is_full.ensures.1 full in cc)
+returns-then-not-is_full-clause-removes g c = (refl, refl)
 
 pub returns-clause-removes : goal.returns-clause-removes
 returns-clause-removes g c =
     let done = c.in_ok-switch_log.ensures.switches in
-    IfOk-weaker c.compact_memtable-2.result _ _ (λ removal removes full. removes (λ none. let never : Some c.compact_memtable.new.self.mem ≡ None = sym done.waits ∙ none in cc))
-    c.compact_memtable-2.ensures.removes
+    let last = c.compact_memtable-2.ensures in
+    ends_after g.E.Env c.args.self.now c.switch_log.new.self c.compact_memtable-2.new.self c.args.env.now c.switch_log.new.env c.compact_memtable-2.new.env c.compact_memtable-2.result
+    (omega (arith, c.in_ok-compact_memtable.ensures.imm.step.cause.later, done.cause.later))
+    (table_changes c.switch_log.new.self c.compact_memtable-2.new.self c.compact_memtable.new.self.mem (but_removal c.compact_memtable-2.result) done.waits last.imm.none_waits)
+    last.removes
 
 -- ---- the tables
 

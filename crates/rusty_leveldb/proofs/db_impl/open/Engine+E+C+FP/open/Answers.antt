@@ -123,10 +123,10 @@ returns-in_err-lock-2 g c =
     ))))
 
 pub invariant_of-result : goal.invariant_of-result
-invariant_of-result g c = λ is_open. c.in_default.ensures.ends.first.ok
+invariant_of-result g c = λ is_open. c.in-Ok-ended.ensures.ends.first.ok
 
-pub returns-in_default : goal.returns-in_default
-returns-in_default g c = done_opens g.E.Env _ c.args.name.now c.args.options
+pub returns-in-Ok-ended : goal.returns-in-Ok-ended
+returns-in-Ok-ended g c = done_opens g.E.Env _ c.args.name.now c.args.options
     (opening_of g.C.Cmp g.FP.FilterPolicy (compressors g.dyn-2).codings c.args.options)
     c.args.env.now c.lock.new.self c.open.new.env c.end_opening-ended.new.env _
     (λ modelled. lock_taken c.args.name.now c.deref.result.now (g.E.Env.observed c.args.env.now)
@@ -142,7 +142,7 @@ returns-in_default g c = done_opens g.E.Env _ c.args.name.now c.args.options
     (λ modelled. none_open g.E.Env _ c.in-Ok.store.set c.args.options c.in_ok-tables.tables
     c.open.new.env c.args.name.now c.in-Ok.ensures.opens.path c.in_ok-tables.ensures.ok
     c.in_ok-tables.ensures.matches)
-    c.in_default.ensures.ends refl c.new-in-Ok.ensures refl c.in_ok-lock.ensures.ok
+    c.in-Ok-ended.ensures.ends refl c.new-in-Ok.ensures refl c.in_ok-lock.ensures.ok
     (record { rest = refl; sink = c.end_opening-ended.ensures.log ∙ ap is_some c.take-log.ensures.value }) c.in-Ok.ensures.cmp
     (λ a b is. ap (format_of g.C.Cmp g.FP.FilterPolicy (compressors g.dyn-2).codings) is.rest) refl
     (c.in_ok-lock-2.ensures.cause.ok ∙ c.in_ok-mkdir.ensures.cause.ok)
@@ -150,12 +150,12 @@ returns-in_default g c = done_opens g.E.Env _ c.args.name.now c.args.options
       c.in_ok-check_name.ensures.ok,
       within_is c.args.options c.in_ok-check.ensures.limits,
       c.in_ok-check.ensures.compressor,
-    )
+    ) c.in-Ok-ended.ensures.removes
 
 pub returns-in-Err-ended : goal.returns-in-Err-ended
 returns-in-Err-ended g c = late_opens g.E.Env _ c.args.options c.args.name.now
     (opening_of g.C.Cmp g.FP.FilterPolicy (compressors g.dyn-2).codings c.args.options)
-    c.args.env.now c.lock.new.self c.end_opening-ended.new.env c.give_back.new.env c.in-Err-ended.status
+    c.args.env.now c.lock.new.self c.end_opening-ended.new.env c.give_back.new.env c.in-Err-ended.e
     (λ modelled. lock_taken c.args.name.now c.deref.result.now (g.E.Env.observed c.args.env.now)
     (g.E.Env.observed c.mkdir.new.self) (g.E.Env.observed c.lock.new.self) modelled
     (c.deref.ensures ∙ c.in_ok-lock.ensures.ok)
@@ -170,7 +170,7 @@ returns-in-Err-ended g c = late_opens g.E.Env _ c.args.options c.args.name.now
     (λ modelled. none_open g.E.Env _ c.in-Ok.store.set c.args.options c.in_ok-tables.tables
     c.open.new.env c.args.name.now c.in-Ok.ensures.opens.path c.in_ok-tables.ensures.ok
     c.in_ok-tables.ensures.matches)
-    c.in-Err-ended.status c.end_opening-ended.new.self c.end_opening-ended.new.tables
+    c.in-Err-ended.e c.end_opening-ended.new.self c.end_opening-ended.new.tables
     c.in-Err-ended.ensures.ends)
     (broken_cause _ g.E.Env _ _ c.args.name.now _ _ _ c.lock.new.self c.open.new.env
     c.end_opening-ended.new.env c.args.options.write_buffer_size c.in-Ok.store c.in-Ok.ensures.opens
@@ -178,7 +178,7 @@ returns-in-Err-ended g c = late_opens g.E.Env _ c.args.options c.args.name.now
     (λ modelled. none_open g.E.Env _ c.in-Ok.store.set c.args.options c.in_ok-tables.tables
     c.open.new.env c.args.name.now c.in-Ok.ensures.opens.path c.in_ok-tables.ensures.ok
     c.in_ok-tables.ensures.matches)
-    c.in-Err-ended.status c.end_opening-ended.new.self c.end_opening-ended.new.tables
+    c.in-Err-ended.e c.end_opening-ended.new.self c.end_opening-ended.new.tables
     c.in-Err-ended.ensures.ends _)
     refl
     (broken_bytes _ g.E.Env _ _ c.args.name.now _ _ _ c.lock.new.self c.open.new.env
@@ -187,7 +187,7 @@ returns-in-Err-ended g c = late_opens g.E.Env _ c.args.options c.args.name.now
     (λ modelled. none_open g.E.Env _ c.in-Ok.store.set c.args.options c.in_ok-tables.tables
     c.open.new.env c.args.name.now c.in-Ok.ensures.opens.path c.in_ok-tables.ensures.ok
     c.in_ok-tables.ensures.matches)
-    c.in-Err-ended.status c.end_opening-ended.new.self c.end_opening-ended.new.tables
+    c.in-Err-ended.e c.end_opening-ended.new.self c.end_opening-ended.new.tables
     c.in-Err-ended.ensures.ends c.in-Ok.ensures.bytes)
     c.give_back.result c.give_back.ensures.does
     c.deref-in-Err-ended.result.now (c.deref-in-Err-ended.ensures ∙ c.in_ok-lock.ensures.ok)
