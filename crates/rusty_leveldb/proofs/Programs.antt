@@ -5,8 +5,8 @@ pub mod Playing
 pub mod Living
 pub mod CallsMade
 mod LifeStories
-mod Meanings
-mod Storied
+pub mod StoreNames
+pub mod Storied
 pub mod RunStories
 pub mod Lives
 pub mod Words

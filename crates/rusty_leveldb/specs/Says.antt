@@ -3,25 +3,26 @@
 -- An open store, in memory and on a disk, shows a store of the headline, and a disk holds a closed
 -- one. Which relations these are need not be known (`Showing`): any would do that has the laws of
 -- `IsShowing`, and of which each call says what it says here. Those that the calls name are in
--- Engines/Witness. Nothing is said where the disk isn't modelled. Of a crash that leaves a prefix of
--- each file all is said here; which others are honest Engines/Witness says.
-use Rattle.std.specs.Prelude.{◌≡◌, ◌⊎◌, ◌++◌, ℕ, List, [], map, slice_get, option_and_then, Option, Some, None, Result, Ok, Err, OnOk, MatchResult, Contains, IsTrue, false}
+-- Engines/Witness. Nothing is said where the disk isn't modelled. Of a crash that leaves a prefix
+-- of each file all is said here; which others are honest Engines/Witness says.
+use Rattle.std.specs.Prelude.{◌≡◌, ◌⊎◌, ◌↔◌, ◌++◌, ℕ, List, [], ◌∷◌, slice_get, option_and_then, Option, Some, None, Result, Ok, Err, OnOk, IsErrAnd, MatchResult, Contains, IsTrue, false, codes}
 use Rattle.std.specs.declared.cmp.Ordering.{Ordering}
+use Rattle.leveldb_base.specs.Error.{text_of}
 use Rattle.leveldb_base.specs.declared.error.Status.{Status}
 use Rattle.leveldb_base.specs.declared.error.StatusCode.{StatusCode}
-use Rattle.leveldb_base.specs.declared.error.StatusCode.TheVariants.{InvalidArgument}
+use Rattle.leveldb_base.specs.declared.error.StatusCode.TheVariants.{InvalidArgument, IOError}
 use Rattle.leveldb_env.specs.Compressor.{Coding}
 use Rattle.leveldb_env.specs.declared.env.Env.{Ghosts}
 use Rattle.leveldb_env.specs.Env.{Disk, File, Files, FilesCrashTo, AppendedAreBytes, is_under, kept_file}
 use Rattle.leveldb_env.specs.Env as calls
+use Rattle.leveldb_iter.specs.declared.moves.Move.{Move}
+use Rattle.leveldb_iter.specs.declared.moves.Move.TheVariants.{First, Next, Prev, Seek}
 use Rattle.leveldb_iter.specs.declared.moves.Step.{Step}
+use Rattle.leveldb_iter.specs.declared.moves.Step.TheVariants.{At, Invalid, Refused}
 use Rattle.leveldb_iter.specs.declared.snapshot.Snapshot.{Snapshot}
 use Rattle.leveldb_files.specs.Stores.Format.{Format, Meaning, Agrees}
-use Rattle.rusty_leveldb.specs.Headline.{Batch, Pair, map_of, IsListing, UserStore, fresh_store, is_broken, is_closed, WalkMove, moved_to, IsShown, Call, write, open_store, walk, release_snapshot, abandon, Why, compressor_failed, device_failed, read_causes, CallOutcome, done, found, walked, snapshot, failed, barred, CallRow, CrashRow}
-use Rattle.rusty_leveldb.specs.Machines.Causes.{IsBrokenRefusal}
-use Rattle.rusty_leveldb.specs.Machines.Shown.{HasCode, HasFault, AreResultsOf}
-use Rattle.rusty_leveldb.specs.Engines.Serves.{refusal_of}
-use Rattle.rusty_leveldb.specs.Walks.Walks.{landing_of}
+use Rattle.rusty_leveldb.specs.Headline.{Batch, Pair, map_of, IsListing, UserStore, fresh_store, is_broken, is_closed, WalkMove, seek_to_first, advance, prev, seek, moved_to, IsShown, Call, write, open_store, walk, release_snapshot, abandon, Why, compressor_failed, device_failed, read_causes, CallOutcome, done, found, walked, snapshot, failed, barred, CallRow, CrashRow}
+use Rattle.rusty_leveldb.specs.Machines.Shown.{HasCode, HasFault}
 
 -- where a store is: its name, and what the names and ids in its files mean
 pub record Place : Type 0 where
@@ -44,13 +45,18 @@ abbrev pub HasEncodingError : Meaning → StatusCode → Type 0
 HasEncodingError meaning code = (id : ℕ) × (coding : Coding) × (meaning.codings id ≡ Some coding)
     × (block : List ℕ) × IsTrue (coding.encode_fails block code)
 
--- A failed call's outcome: the mode barred it, or it failed for a cause with this code.
+-- what a refusal says: the mode barred the call, or it failed, for a cause with this code
+abbrev pub IsRefusedWith : Status → CallOutcome → Type 0
+IsRefusedWith status (barred is_closed) = status.code ≡ InvalidArgument
+IsRefusedWith status (barred is_broken) = (status.code ≡ IOError)
+    × ((text_of status.err ≡ []) ⊎ (text_of status.err ≡ codes "IOError: reopen the store"))
+IsRefusedWith status (failed why) = HasCode why status.code
+IsRefusedWith status outcome = ⊥
+
+-- the outcome of a call that failed; a compressor that is said to have failed did
 abbrev pub IsFailure : Status → Meaning → CallOutcome → Type 0
-IsFailure status meaning outcome =
-    ((outcome ≡ barred is_closed) × (status.code ≡ InvalidArgument))
-    ⊎ ((outcome ≡ barred is_broken) × IsBrokenRefusal (refusal_of status))
-    ⊎ ((why : Why) × (outcome ≡ failed why) × HasCode why status.code
-    × (why ≡ compressor_failed → HasEncodingError meaning status.code))
+IsFailure status meaning outcome = IsRefusedWith status outcome
+    × (outcome ≡ failed compressor_failed → HasEncodingError meaning status.code)
 
 -- the outcome of a call that returns nothing
 abbrev pub DoneOr : {T : Type 0} → Result T Status → Meaning → CallOutcome → Type 0
@@ -67,10 +73,30 @@ abbrev pub SnapshotOr : Result Snapshot Status → Meaning → CallOutcome → T
 SnapshotOr (Ok one) meaning outcome = outcome ≡ snapshot one.number
 SnapshotOr (Err status) meaning outcome = IsFailure status meaning outcome
 
+-- the move of the headline that a move is
+abbrev pub move_for : Move → WalkMove
+move_for First = seek_to_first
+move_for Next = advance
+move_for Prev = prev
+move_for (Seek key) = seek key.items
+
+-- where a move of a walk led
+abbrev pub IsResultFor : Step → Result (Option Pair) Why → Type 0
+IsResultFor (At key value) result = result ≡ Ok (Some (key.items, value.items))
+IsResultFor Invalid result = result ≡ Ok None
+IsResultFor (Refused status) result = IsErrAnd result (λ why. HasCode why status.code)
+
+-- and each in turn
+abbrev pub AreResultsFor : List Step → List (Result (Option Pair) Why) → Type 0
+AreResultsFor [] results = results ≡ []
+AreResultsFor (step ∷ steps) (result ∷ results) =
+    IsResultFor step result × AreResultsFor steps results
+AreResultsFor steps [] = ⊥
+
 -- the outcome of a walk whose moves led there
 abbrev pub WalkedOr : List Step → Result (Unit {0}) Status → Meaning → CallOutcome → Type 0
-WalkedOr steps (Ok nothing) meaning outcome = (results : List _)
-    × (outcome ≡ walked results) × AreResultsOf (map landing_of steps) results
+WalkedOr steps (Ok nothing) meaning outcome = (results : List (Result (Option Pair) Why))
+    × AreResultsFor steps results × (outcome ≡ walked results)
 WalkedOr steps (Err status) meaning outcome = IsFailure status meaning outcome
 
 -- ---- crashes
@@ -226,3 +252,10 @@ pub record IsShowing {M : Type 0} (showing : Showing M) : Type 0 where
   -- a crash that leaves a prefix of each file is honest
   pub prefixes : (name : List ℕ) (files left : Files) → ArePrefixesLeft files left
       → showing.is_honest name files left
+
+-- of disks and of crashes two of them say the same
+abbrev pub AreAlike : {M N : Type 0} → Showing M → Showing N → Type 0
+AreAlike one two = ((place : Place) (disk : Disk) (store : UserStore)
+    → one.holds place disk store ↔ two.holds place disk store)
+    × ((name : List ℕ) (files left : Files)
+    → one.is_honest name files left ↔ two.is_honest name files left)

@@ -2,7 +2,8 @@
 
 ghost use Rattle.rusty_leveldb.specs.Compactions.CompactionLaws.{AreViewsInTables};
 ghost use Rattle.rusty_leveldb.specs.Engines.CallLaws.{RefusalsAreExplained};
-ghost use Rattle.rusty_leveldb.specs.Engines.Witness.{AreShownBy, EachOpeningSays, shown_by};
+ghost use Rattle.rusty_leveldb.specs.Engines.Witness.{AreShownBy, EachOpeningSays, shown_by, stored};
+ghost use Rattle.rusty_leveldb.specs.Says.{IsShowing};
 ghost use Rattle.rusty_leveldb.specs.HeadlineLaws.{AbandonedIsWhole, BatchIsLeftWhole, BatchesAreReadWhole, DurableIsKept, ForwardWalkGivesMap, LaterEntryWins, PrevLeadsBack, SnapshotReadsTheSame};
 ghost use Rattle.rusty_leveldb.specs.Walks.Iterator.{ScanGivesPairs};
 ghost use Rattle.rusty_leveldb.specs.Walks.IteratorLaws.{PrevUndoesNext};
@@ -31,15 +32,17 @@ pub fn machines_are_maps()
     ensures repaired { RepairsAreShown }
 {}
 
-/// The relations by which each call of `DB` says what it does have their laws: an empty folder holds
-/// the store of no batch, what a disk holds is closed, and a crash between two calls leaves a crash
-/// row of what is shown or held. And `Engine::open` says what `DB::open` does, of the environment
-/// that it is given.
+/// The relations by which each call of `DB` says what it does have their laws: an empty folder
+/// holds the store of no batch, what a disk holds is closed, and a crash between two calls leaves a
+/// crash row of what is shown or held. So have those by which runs and lives say it; of disks and
+/// crashes they are the same. And `Engine::open` says what `DB::open` does, of the environment that
+/// it is given.
 pub fn stores_are_shown<E: Env, C: UserCmp + Copy, FP: FilterPolicy + Copy>(
     options: &Options<C, FP>,
 )
     ensures laws { AreShownBy options.now (shown_by ⟦<InternalKeyCmp<C> as Cmp>⟧ E.Env C.Cmp
         FP.FilterPolicy ⟦<CompressorList as Compressors>⟧.codings) }
+    ensures disks { IsShowing stored }
     ensures opens { let codings = ⟦<CompressorList as Compressors>⟧.codings in
         EachOpeningSays E.Env (choices_of C.Cmp FP.FilterPolicy ⟦<InternalKeyCmp<C> as Cmp>⟧
         ⟦<InternalFilterPolicy<FP> as FilterPolicy>⟧ codings) options.now

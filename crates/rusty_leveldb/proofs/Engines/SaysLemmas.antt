@@ -1,7 +1,8 @@
 -- From the step of the machine that a call is to its row of the headline, and the laws of the
 -- relations that the calls name.
-use Rattle.std.proofs.Common.{◌≡◌, ⊎_elim, inl, inr, ℕ, Bool, true, false, List, [], ◌∷◌, ◌++◌, refl, sym, ◌∙◌, ap, subst, Option, Some, None, Ok, Err, IsTrue, append_assoc}
-use Rattle.std.specs.Prelude.{◌↔◌, ◌==◌, ◌&&◌, map, OnOk, Result}
+use Rattle.std.proofs.Common.{◌≡◌, ⊎_elim, inl, inr, ℕ, Bool, false, List, [], ◌∷◌, ◌++◌, refl, sym, ◌∙◌, ap, subst, Option, Some, None, Ok, Err, IsTrue, append_assoc}
+use Rattle.std.specs.Prelude.{map, OnOk, Result}
+use Rattle.std.specs.Option.{option_map}
 use Rattle.std.specs.declared.cmp.Ordering.{Ordering}
 use Rattle.std.proofs.lemmas.Bool.Decides.{Decides-eqb}
 use Rattle.std.proofs.lemmas.Slice.Eq.{starts_is}
@@ -18,31 +19,33 @@ use Rattle.leveldb_iter.specs.declared.moves.Move.{Move}
 use Rattle.leveldb_iter.specs.declared.moves.Step.{Step as WalkStep}
 use Rattle.leveldb_iter.specs.declared.snapshot.Snapshot.{Snapshot as HeldSnapshot}
 use Rattle.leveldb_files.proofs.Histories.SafeLemmas.{front_honest}
+use Rattle.leveldb_files.specs.Histories.Holds.{IsHonest}
 use Rattle.leveldb_files.specs.Stores.Format.{Format, Meaning, Agrees, HasCompressorError}
 use Rattle.leveldb_files.specs.Stores.Store.{HasNoStore}
 use Rattle.leveldb_env.specs.declared.filter.FilterPolicy.{Ghosts as FilterGhosts}
 use Rattle.leveldb_store.specs.Tables.BuildTable.{TableChoices}
 use Rattle.rusty_leveldb.specs.Headline as headline
 use Rattle.rusty_leveldb.specs.Headline.{Batch, UserStore, StoreMode, is_closed, fresh_store, Call, CallOutcome, CallRow}
-use Rattle.rusty_leveldb.specs.Machines.State.{Mode, open_mode, broken, closed, Snapshot, Opening, State, Request, open_store, write, get, walk, get_snapshot, release_snapshot, flush, compact_range, close, abandon, Answer, done, found, walked, snapshot, refused}
+use Rattle.rusty_leveldb.specs.Machines.State.{Snapshot, Opening, State, Request, open_store, write, get, walk, get_snapshot, release_snapshot, flush, compact_range, close, abandon, Answer, done, found, walked, snapshot, refused}
 use Rattle.rusty_leveldb.specs.Machines.Causes.{Setting, CompressorFails, block_format}
-use Rattle.rusty_leveldb.specs.Machines.Machine.{Step}
 use Rattle.rusty_leveldb.specs.Machines.Runs.{new_state}
 use Rattle.rusty_leveldb.specs.Machines.Shown.{HasFault, IsEncodingFault, changes_of, snapshot_number, walk_move_of, IsCallOf, IsOutcomeOf, store_mode_of, IsShownAs, IsRowOf, written_by, IsOpenedIn}
 use Rattle.rusty_leveldb.specs.Engines.Boxes.{EngineOf, InternalOrder}
 use Rattle.rusty_leveldb.specs.Engines.Calls.{EngineAbandons, EngineCloses, EngineCompacts, EngineFlushes, EngineGets, EngineHolds, EngineOpens, EngineReleases, EngineWalks, EngineWrites}
-use Rattle.rusty_leveldb.specs.Engines.Engine.{Answers, AnswersAs, IsOpening, IsStoreName, Recalls, formats_of, scene}
+use Rattle.rusty_leveldb.specs.Engines.Engine.{Answers, AnswersAs, IsOpening, Recalls, formats_of, scene}
 use Rattle.rusty_leveldb.specs.Engines.Rows.{RepresentsAt}
 use Rattle.rusty_leveldb.specs.Engines.Serves.{StandsFor, TakesStep, done_or, found_or, given_engine, refusal_of, setting_between, snapshot_of, snapshot_or}
-use Rattle.rusty_leveldb.specs.Engines.Witness.{showing_in}
-use Rattle.rusty_leveldb.specs.Says.{Place, Showing, HasEncodingError, IsFailure, DoneOr, FoundOr, SnapshotOr, WalkedOr, batch_of, CrashLeaves, IsHeadlineRow, Says, SaysReleased, SaysAbandoned, IsOpenedAs, SaysOpened, HasNothingUnder, ArePrefixesLeft, IsShowing}
+use Rattle.rusty_leveldb.specs.Engines.Witness.{IsHeldBy, showing_in, stored}
+use Rattle.rusty_leveldb.specs.Programs.Lives.{with_name}
+use Rattle.rusty_leveldb.specs.Says.{Place, Showing, HasEncodingError, move_for, IsFailure, DoneOr, FoundOr, SnapshotOr, WalkedOr, batch_of, CrashLeaves, IsHeadlineRow, Says, SaysReleased, SaysAbandoned, IsOpenedAs, SaysOpened, HasNothingUnder, ArePrefixesLeft, IsShowing}
 use Rattle.rusty_leveldb.specs.Walks.Walks.{move_of, walk_of, walked_or}
 use Rattle.rusty_leveldb.proofs.Engines.Crashes.{crash_between, crash_inside}
 use Rattle.rusty_leveldb.proofs.Engines.ReadsLemmas.{nothing_stands}
 use Rattle.rusty_leveldb.proofs.Headline.RowLemmas.{steps_are_rows}
-use Rattle.rusty_leveldb.proofs.Headline.StoryLemmas.{order_after, inside_told, between_told, new_shown}
+use Rattle.rusty_leveldb.proofs.Headline.StoryLemmas.{order_after, opens_in_any, opened_format, inside_told, between_told, new_shown}
 use Rattle.rusty_leveldb.proofs.Machines.MachineLemmas.{change}
-use Rattle.rusty_leveldb.proofs.Openings.AskedLemmas.{and_both, and_true}
+use Rattle.rusty_leveldb.proofs.Programs.CallsMade.{each_led_to, refused_with, same_moves}
+use Rattle.rusty_leveldb.proofs.Programs.StoreNames.{named, opens_so}
 
 -- ---- calls
 
@@ -64,27 +67,6 @@ same_batch (compact_range from to) answer call is = sym (ap batch_of is)
 same_batch close answer call is = sym (ap batch_of is)
 same_batch abandon answer call is = sym (ap batch_of is)
 
--- the order of keys is none of an opening's row
-done_in_any : (a b : List ℕ → List ℕ → Ordering) (old new : UserStore) (outcome : CallOutcome)
-    → CallRow a is_closed old headline.open_store outcome new
-    → CallRow b is_closed old headline.open_store outcome new
-done_in_any a b old new headline.done row = row
-done_in_any a b old new (headline.failed why) row = row
-done_in_any a b old new (headline.found value) row = absurd row.1
-done_in_any a b old new (headline.walked results) row = absurd row.1
-done_in_any a b old new (headline.snapshot number) row = absurd row.1
-done_in_any a b old new (headline.barred mode) row = absurd row.1
-
-opens_in_any : (a b : List ℕ → List ℕ → Ordering) (old new : UserStore) (call : Call)
-    (outcome : CallOutcome) → old.mode ≡ is_closed → call ≡ headline.open_store
-    → CallRow a old.mode old call outcome new
-    → CallRow b old.mode old headline.open_store outcome new
-opens_in_any a b old new call outcome closed_so is row =
-    subst (λ mode. CallRow b mode old headline.open_store outcome new) (sym closed_so)
-    (done_in_any a b old new outcome
-    (subst (λ mode. CallRow a mode old headline.open_store outcome new) closed_so
-    (subst (λ c. CallRow a old.mode old c outcome new) is row)))
-
 -- a compressor that is told to have failed did, with the code of the refusal
 abbrev EncodesFail : Meaning → Answer → CallOutcome → Type 0
 EncodesFail meaning (refused refusal) outcome =
@@ -94,14 +76,7 @@ EncodesFail meaning answer outcome = Unit {0}
 failure_returned : (status : Status) (meaning : Meaning) (outcome : CallOutcome)
     → IsOutcomeOf (refused (refusal_of status)) outcome
     → EncodesFail meaning (refused (refusal_of status)) outcome → IsFailure status meaning outcome
-failure_returned status meaning outcome (inl closed_so) encodes = inl closed_so
-failure_returned status meaning outcome (inr (inl broken_so)) encodes = inr (inl broken_so)
-failure_returned status meaning outcome (inr (inr failed_so)) encodes = inr (inr (
-  failed_so.0,
-  failed_so.1,
-  failed_so.2,
-  λ is. encodes (failed_so.1 ∙ ap headline.failed is),
-))
+failure_returned status meaning outcome is encodes = (refused_with status outcome is, encodes)
 
 done_returned : {T : Type 0} (result : Result T Status) (meaning : Meaning) (outcome : CallOutcome)
     → IsOutcomeOf (done_or result) outcome → EncodesFail meaning (done_or result) outcome
@@ -371,7 +346,7 @@ module _ {E C FP F : Type 0} {B : Boxed} (keys : InternalOrder C) (env : Ghosts 
         by : (result : Result (Unit {0}) Status) (meaning : Meaning) (outcome : CallOutcome)
             → IsOutcomeOf (walked_or given result) outcome → EncodesFail meaning (walked_or given result) outcome
             → WalkedOr given result meaning outcome
-        by (Ok value) meaning outcome is encodes = is
+        by (Ok value) meaning outcome is encodes = (is.0, each_led_to given is.0 is.2, is.1)
         by (Err status) meaning outcome is encodes =
             failure_returned status meaning outcome is encodes
 
@@ -431,74 +406,6 @@ module _ {E C FP F : Type 0} {B : Boxed} (keys : InternalOrder C) (env : Ghosts 
 
 -- ---- openings
 
--- the last byte is a slash
-abbrev ends_in_slash : List ℕ → Bool
-ends_in_slash [] = false
-ends_in_slash (x ∷ []) = x == 47
-ends_in_slash (x ∷ y ∷ rest) = ends_in_slash (y ∷ rest)
-
-slash_last : (front : List ℕ) → ends_in_slash (front ++ 47 ∷ []) ≡ true
-slash_last [] = refl
-slash_last (x ∷ []) = refl
-slash_last (x ∷ y ∷ rest) = slash_last (y ∷ rest)
-
-before_slash : (name : List ℕ) → ends_in_slash name ≡ true
-    → (front : List ℕ) × (name ≡ front ++ 47 ∷ [])
-before_slash [] never = absurd (cc)
-before_slash (x ∷ []) is = ([], ap (λ n. n ∷ []) ((Decides-eqb x 47).0 is))
-before_slash (x ∷ y ∷ rest) is =
-    let more = before_slash (y ∷ rest) is in (x ∷ more.0, ap (λ n. x ∷ n) more.1)
-
--- whether a name is a store's
-is_named : (name : List ℕ) → (b : Bool) × (IsTrue b ↔ IsStoreName name)
-is_named [] =
-    (false, (λ never. absurd (let f : false ≡ true = never in cc), λ is. absurd (is.0 refl)))
-is_named (x ∷ rest) = by (ends_in_slash (x ∷ rest)) refl
-  where
-    by : (b : Bool) → ends_in_slash (x ∷ rest) ≡ b
-        → (b : Bool) × (IsTrue b ↔ IsStoreName (x ∷ rest))
-    by true e =
-        let split = before_slash (x ∷ rest) e in (
-          false,
-          (
-            λ never. absurd (let f : false ≡ true = never in cc),
-            λ is. absurd (is.1 split.0 split.1),
-          ),
-        )
-    by false e = (
-      true,
-      (
-        λ is. (
-          λ empty. absurd (let f : x ∷ rest ≡ [] = empty in cc),
-          λ front split. absurd
-              (let f : false ≡ true = sym e ∙ ap ends_in_slash split ∙ slash_last front in cc),
-        ),
-        λ is. refl,
-      ),
-    )
-
--- the opening that is asked for under a name
-opening_under : (name : List ℕ) (asked : Opening)
-    → (fits : Bool) × IsOpening name asked (record asked { fits = fits })
-opening_under name asked =
-    let named = is_named name in (
-      named.0 && asked.fits,
-      record {
-        same = refl;
-        fits = (
-          λ is. let both = and_both named.0 asked.fits is in (named.1.0 both.0, both.1),
-          λ both. and_true named.0 asked.fits (named.1.1 both.0) both.1,
-        );
-      },
-    )
-
--- an opening that is done has its format
-opened_format : (at : Setting) (opening : Opening) (old new : State) (mode : Mode)
-    → Step mode at old (open_store opening) done new → new.format.order ≡ opening.format.order
-opened_format at opening old new closed step = ap (λ (s : State). s.format.order) step.1.state
-opened_format at opening old new broken step = absurd step
-opened_format at opening old new open_mode step = absurd step
-
 module _ {E C FP F : Type 0} {B : Boxed} (keys : InternalOrder C) (env : Ghosts E F)
     (formats : OptionsOf C FP B → Format) where
   pub says_opened : (name : List ℕ) (asked : Opening) (from : E)
@@ -509,13 +416,13 @@ module _ {E C FP F : Type 0} {B : Boxed} (keys : InternalOrder C) (env : Ghosts 
       (given_engine result) to)
       → SaysOpened env (showing_in keys env formats) name asked.format from result to
   says_opened name asked from result to step modelled meaning agrees store held =
-      let under = opening_under name asked in
-      let opening : Opening = record asked { fits = under.0 } in
+      let fits = named name in
+      let opening : Opening = with_name fits.0 asked in
       let place : Place = record { name = name; meaning = meaning } in
       let old = held.0 in
       let was : RepresentsAt keys env formats name meaning None from old =
       record { disk_is = held.1; memory_is = held.2 } in
-      let goes = step opening under.1 meaning agrees modelled old was in
+      let goes = step opening (opens_so name fits.0 asked fits.1) meaning agrees modelled old was in
       let row = step_row keys env formats place None from (open_store opening) (done_or result)
       (given_engine result) to old store was held.3 goes in
       let closed_so : store.mode ≡ is_closed = held.3.mode ∙ ap store_mode_of held.2 in
@@ -538,7 +445,7 @@ module _ {E C FP F : Type 0} {B : Boxed} (keys : InternalOrder C) (env : Ghosts 
     where
       by : (result : Result (EngineOf E C FP F B) Status) (next : UserStore)
           → (goes : TakesStep name meaning (Recalls keys env formats name meaning)
-          (scene env None from) (open_store (record asked { fits = (opening_under name asked).0 }))
+          (scene env None from) (open_store (with_name (named name).0 asked))
           (done_or result) (scene env (given_engine result) to) held.0)
           → IsShownAs goes.new next
           → IsOpenedAs env (showing_in keys env formats)
@@ -549,7 +456,7 @@ module _ {E C FP F : Type 0} {B : Boxed} (keys : InternalOrder C) (env : Ghosts 
         goes.represents,
         is,
         opened_format (setting_between meaning (env.failures from) (env.failures to))
-            (record asked { fits = (opening_under name asked).0 }) held.0 goes.new held.0.mode
+            (with_name (named name).0 asked) held.0 goes.new held.0.mode
             goes.step,
       )
       by (Err status) next goes is =
@@ -572,13 +479,17 @@ child_is_under folder child =
     (is_under folder (in_folder folder child)) refl).1 child
     (sym (append_assoc folder (47 ∷ []) child))
 
-module _ {E C FP F : Type 0} {B : Boxed} (keys : InternalOrder C) (env : Ghosts E F)
-    (formats : OptionsOf C FP B → Format) where
-  abbrev the_showing : Showing (EngineOf E C FP F B)
-  the_showing = showing_in keys env formats
+-- of relations by which memory and disk show what the disk does
+module _ {M : Type 0}
+    (shows : Place → (List ℕ → List ℕ → Ordering) → M → Disk → UserStore → Type 0)
+    (on_disk : (place : Place) (order : List ℕ → List ℕ → Ordering) (memory : M) (disk : Disk)
+    (store : UserStore) → shows place order memory disk store
+    → (state : State) × StandsFor place.name place.meaning disk state × IsShownAs state store) where
+  abbrev the_showing : Showing M
+  the_showing = record { shows = shows; holds = IsHeldBy; is_honest = IsHonest }
 
   fresh_held : (place : Place) (disk : Disk) → HasNothingUnder place.name disk
-      → AppendedAreBytes disk.files → the_showing.holds place disk (fresh_store [] 0 is_closed)
+      → AppendedAreBytes disk.files → IsHeldBy place disk (fresh_store [] 0 is_closed)
   fresh_held place disk nothing bytes =
       let none : (child : List ℕ) → (disk.files (in_folder place.name child) ≡ None)
       × (disk.locked (in_folder place.name child) ≡ false) = λ child.
@@ -609,20 +520,29 @@ module _ {E C FP F : Type 0} {B : Boxed} (keys : InternalOrder C) (env : Ghosts 
       )
 
   prefix_honest : (name : List ℕ) (files left : Files) → ArePrefixesLeft files left
-      → the_showing.is_honest name files left
+      → IsHonest name files left
   prefix_honest name files left are path file crashed journal there is =
       let one = are path file there in
       front_honest file one.0 one.1 one.2 file crashed refl (sym one.3 ∙ is)
 
-  pub is_showing : IsShowing the_showing
-  is_showing = record {
+  laws : IsShowing the_showing
+  laws = record {
     fresh = fresh_held;
     closed = λ place disk store held. held.3.mode ∙ ap store_mode_of held.2;
     crash_held = λ place disk store held. crash_leaves place disk held.0 store held.1 held.3;
     crash_shown = λ place order memory disk store shown.
-        crash_leaves place disk shown.0 store shown.1.disk_is shown.2;
+        let on = on_disk place order memory disk store shown in
+        crash_leaves place disk on.0 store on.1 on.2;
     prefixes = prefix_honest;
   }
+
+pub is_showing : {E C FP F : Type 0} {B : Boxed} (keys : InternalOrder C) (env : Ghosts E F)
+    (formats : OptionsOf C FP B → Format) → IsShowing (showing_in keys env formats)
+is_showing keys env formats = laws (showing_in keys env formats).shows
+    (λ place order memory disk store shown. (shown.0, shown.1.disk_is, shown.2))
+
+pub stored_is_showing : IsShowing stored
+stored_is_showing = laws stored.shows (λ place order memory disk store shown. absurd shown)
 
 -- ---- by the record of a call
 
@@ -658,12 +578,25 @@ module _ {E C FP F P : Type 0} {B : Boxed} {keys : InternalOrder C} {key_filters
   get_says {at = at} {key = key} {result = result} does =
       says_found keys env (formats_of choices) before from after to at key result does.step
 
-  pub walk_says : {at : Option Snapshot} {moves : List Move} {given : List WalkStep}
-      {result : Result (Unit {0}) Status}
-      → EngineWalks env choices before from at moves given result after to
-      → Says env (showing_in keys env (formats_of choices)) before from (headline.walk (snapshot_number at) (map walk_move_of (map move_of moves))) (WalkedOr given result) after to
-  walk_says {at = at} {moves = moves} {given = given} {result = result} does =
-      says_walked keys env (formats_of choices) before from after to at moves given result does.step
+  pub walk_says : {moves : List Move} {given : List WalkStep} {result : Result (Unit {0}) Status}
+      (at : Option HeldSnapshot)
+      → EngineWalks env choices before from (option_map snapshot_of at) moves given result after to
+      → Says env (showing_in keys env (formats_of choices)) before from
+      (headline.walk (option_map (λ one. one.number) at) (map move_for moves))
+      (WalkedOr given result) after to
+  walk_says {moves = moves} {given = given} {result = result} at does =
+      subst (λ number. Says env (showing_in keys env (formats_of choices)) before from
+      (headline.walk number (map move_for moves)) (WalkedOr given result) after to) (same_number at)
+      (subst (λ ways. Says env (showing_in keys env (formats_of choices)) before from
+      (headline.walk (snapshot_number (option_map snapshot_of at)) ways) (WalkedOr given result)
+      after to) (same_moves moves)
+      (says_walked keys env (formats_of choices) before from after to (option_map snapshot_of at)
+      moves given result does.step))
+    where
+      same_number : (at : Option HeldSnapshot)
+          → snapshot_number (option_map snapshot_of at) ≡ option_map (λ (one : HeldSnapshot). one.number) at
+      same_number None = refl
+      same_number (Some one) = refl
 
   pub hold_says : {result : Result HeldSnapshot Status}
       → EngineHolds env choices before from result after to

@@ -14,11 +14,11 @@ use Rattle.rusty_leveldb.specs.Machines.State.{Mode, open_mode, broken, closed, 
 use Rattle.rusty_leveldb.specs.Machines.Causes.{Setting, Cause, out_of_memory, device_failed, lock_is_held, bad_operand, store_exists, used_up, too_large, compressor_failed, lacks_compressor, IsCausedBy}
 use Rattle.rusty_leveldb.specs.Machines.Machine.{Keeps, Breaks, MayBreak, Gives, LeavesRefused, Succeeds, Responds, Rejects, Step, added_batch}
 use Rattle.rusty_leveldb.specs.Machines.Runs.{Event, setting_of, RunsEvents}
-use Rattle.rusty_leveldb.specs.Machines.Shown.{IsOutcomeOf, AreHeldAs, IsShownAs, IsRowOf, IsOpenedIn, TellsEvents}
+use Rattle.rusty_leveldb.specs.Machines.Shown.{IsCallOf, IsOutcomeOf, AreHeldAs, store_mode_of, IsShownAs, IsRowOf, IsOpenedIn, TellsEvents}
 use Rattle.rusty_leveldb.specs.Programs.Shell.{given_by}
 use Rattle.rusty_leveldb.proofs.Machines.MachineLemmas.{change, step_fits}
 use Rattle.rusty_leveldb.proofs.Headline.RowLemmas.{steps_are_rows}
-use Rattle.rusty_leveldb.proofs.Headline.StoryLemmas.{order_after}
+use Rattle.rusty_leveldb.proofs.Headline.StoryLemmas.{order_after, opened_format, opens_in_any}
 
 -- ---- the snapshots that were given out
 
@@ -472,11 +472,12 @@ AreOwn taken (event ∷ events) (returned call outcome ∷ told) =
 abbrev pub NoneOpens : List Event → Type 0
 NoneOpens events = All (λ event. IsOpening event.request → ⊥) events
 
--- the first event opens the store, and no other does
+-- the first event opens the store, and no other does; it is the only one if it fails
 abbrev pub OpensFirst : List Event → Type 0
 OpensFirst [] = Unit {0}
 OpensFirst (event ∷ events) =
     ((opening : Opening) × (event.request ≡ open_store opening)) × NoneOpens events
+    × ((event.answer ≡ done) ⊎ (events ≡ []))
 
 module _ (cmp : List ℕ → List ℕ → Ordering) where
   -- a run that was told, each event by its own number
@@ -489,13 +490,12 @@ module _ (cmp : List ℕ → List ℕ → Ordering) where
     pub story : IsStory cmp store told next
     pub shown : IsShownAs last next
     pub is : IsState last
-    pub order : last.format.order ≡ cmp
 
   module _ (meaning : Meaning) where
     none_told : (taken : List Snapshot) (before after : ℕ) (old last : State) (store : UserStore)
-        → IsState old → IsShownAs old store → old.format.order ≡ cmp
+        → IsState old → IsShownAs old store
         → RunsEvents meaning before old [] after last → IsOwnTold taken [] store last
-    none_told taken before after old last store is shown order run = record {
+    none_told taken before after old last store is shown run = record {
       told = [];
       next = store;
       tells = tt;
@@ -503,7 +503,6 @@ module _ (cmp : List ℕ → List ℕ → Ordering) where
       story = refl;
       shown = subst (λ s. IsShownAs s store) (sym run.1) shown;
       is = subst IsState (sym run.1) is;
-      order = ap (λ (s : State). s.format.order) run.1 ∙ order;
     }
 
     -- one event more, in front
@@ -521,7 +520,6 @@ module _ (cmp : List ℕ → List ℕ → Ordering) where
       story = (row.next, row.row, rest.story);
       shown = rest.shown;
       is = rest.is;
-      order = rest.order;
     }
 
     rest_told : (taken : List Snapshot) (events : List Event) (before after : ℕ)
@@ -530,7 +528,7 @@ module _ (cmp : List ℕ → List ℕ → Ordering) where
         → All (λ event. IsOpenedIn cmp event.request) events
         → RunsEvents meaning before old events after last → IsOwnTold taken events store last
     rest_told taken [] before after old last store known is shown order none opened run =
-        none_told taken before after old last store is shown order run
+        none_told taken before after old last store is shown run
     rest_told taken (event ∷ events) before after old last store known is shown order none opened
         run =
         let next = run.1 in
@@ -551,24 +549,62 @@ module _ (cmp : List ℕ → List ℕ → Ordering) where
         more_told taken (taken ++ given_by event.answer) setting old next last store event events
         refl own.row own.own rest
 
+    -- the opening is a row in this order of keys, whichever the store had
+    first_row : (setting : Setting) (old next : State) (store : UserStore) (event : Event)
+        (opening : Opening) → event.request ≡ open_store opening → IsState old → IsShownAs old store
+        → Step old.mode setting old event.request event.answer next
+        → IsRowOf cmp setting old store event.request event.answer next
+    first_row setting old next store event opening opens is shown step =
+        let row = steps_are_rows old.format.order setting old next event.request event.answer store
+        is shown refl step in
+        let call_is : row.call ≡ headline.open_store =
+        subst (λ r. IsCallOf r event.answer row.call) opens row.asked in
+        record {
+          call = row.call;
+          outcome = row.outcome;
+          next = row.next;
+          asked = row.asked;
+          told = row.told;
+          faults = row.faults;
+          row = subst (λ c. CallRow cmp store.mode store c row.outcome row.next) (sym call_is)
+              (opens_in_any old.format.order cmp store row.next row.call row.outcome
+              (shown.mode ∙ ap store_mode_of (closed_before setting old next opening event.answer
+              old.mode refl (subst (λ r. Step old.mode setting old r event.answer next) opens step)))
+              call_is row.row);
+          shown = row.shown;
+        }
+      where
+        closed_before : (setting : Setting) (old new : State) (opening : Opening) (answer : Answer)
+            (mode : Mode) → old.mode ≡ mode → Step mode setting old (open_store opening) answer new
+            → old.mode ≡ closed
+        closed_before setting old new opening answer closed m step = m
+        closed_before setting old new opening answer broken m step = absurd step
+        closed_before setting old new opening answer open_mode m step = absurd step
+
     pub first_told : (events : List Event) (before after : ℕ) (old last : State)
-        (store : UserStore) → IsState old → IsShownAs old store → old.format.order ≡ cmp
-        → OpensFirst events → All (λ event. IsOpenedIn cmp event.request) events
+        (store : UserStore) → IsState old → IsShownAs old store → OpensFirst events
+        → All (λ event. IsOpenedIn cmp event.request) events
         → RunsEvents meaning before old events after last → IsOwnTold [] events store last
-    first_told [] before after old last store is shown order first opened run =
-        none_told [] before after old last store is shown order run
-    first_told (event ∷ events) before after old last store is shown order first opened run =
+    first_told [] before after old last store is shown first opened run =
+        none_told [] before after old last store is shown run
+    first_told (event ∷ events) before after old last store is shown first opened run =
         let next = run.1 in
         let setting = setting_of meaning before event in
+        let opening = first.0.0 in
         let step = subst (λ r. Step old.mode setting old r event.answer next) first.0.1 run.2 in
-        let known = known_opened setting old next first.0.0 event.answer is step in
-        let row = steps_are_rows cmp setting old next event.request event.answer store is shown
-        order run.2 in
-        let rest = rest_told [] events event.failures after next last row.next known.0
-        (step_fits setting old next event.request event.answer is run.2) row.shown
-        (order_after cmp old next event.request order
-        (All-head (λ (e : Event). IsOpenedIn cmp e.request) event events opened)
-        (change setting old next event.request event.answer run.2)) first.1
+        let known = known_opened setting old next opening event.answer is step in
+        let row = first_row setting old next store event opening first.0.1 is shown run.2 in
+        let is_next = step_fits setting old next event.request event.answer is run.2 in
+        let done_rest : event.answer ≡ done → IsOwnTold [] events row.next last = λ done_so.
+        rest_told [] events event.failures after next last row.next known.0 is_next row.shown
+        (opened_format setting opening old next old.mode
+        (subst (λ a. Step old.mode setting old (open_store opening) a next) done_so step)
+        ∙ subst (IsOpenedIn cmp) first.0.1
+        (All-head (λ (e : Event). IsOpenedIn cmp e.request) event events opened)) first.1
         (All-tail (λ (e : Event). IsOpenedIn cmp e.request) event events opened) run.3 in
+        let none_rest : events ≡ [] → IsOwnTold [] events row.next last = λ none.
+        subst (λ es. IsOwnTold [] es row.next last) (sym none)
+        (none_told [] event.failures after next last row.next is_next row.shown
+        (subst (λ es. RunsEvents meaning event.failures next es after last) none run.3)) in
         more_told [] [] setting old next last store event events known.1 row
-        (λ one e c. absurd (in_none one c)) rest
+        (λ one e c. absurd (in_none one c)) (⊎_elim done_rest none_rest first.2)

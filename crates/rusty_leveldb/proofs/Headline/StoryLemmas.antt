@@ -7,9 +7,10 @@ use Rattle.std.proofs.lemmas.List.Elements.{All-head, All-tail}
 use Rattle.leveldb_base.specs.History.{Item, entries_of, with_batch}
 use Rattle.leveldb_files.specs.Stores.Format.{Format, Meaning}
 use Rattle.rusty_leveldb.specs.Headline as headline
-use Rattle.rusty_leveldb.specs.Headline.{Batch, map_of, UserStore, is_open, is_closed, fresh_store, handed_on, CrashRow, returned, crash, IsStory}
-use Rattle.rusty_leveldb.specs.Machines.State.{open_mode, State, IsState, Request, open_store, write}
-use Rattle.rusty_leveldb.specs.Machines.Machine.{added_batch, Risk, risk_between, risk_of, Crashes}
+use Rattle.rusty_leveldb.specs.Headline.{Batch, map_of, UserStore, is_open, is_closed, fresh_store, Call, CallOutcome, CallRow, handed_on, CrashRow, returned, crash, IsStory}
+use Rattle.rusty_leveldb.specs.Machines.State.{Mode, open_mode, broken, closed, Opening, State, IsState, Request, open_store, write, done}
+use Rattle.rusty_leveldb.specs.Machines.Causes.{Setting}
+use Rattle.rusty_leveldb.specs.Machines.Machine.{Step, added_batch, Risk, risk_between, risk_of, Crashes}
 use Rattle.rusty_leveldb.specs.Machines.Runs.{Event, setting_of, RunsEvents, CrashBefore, last_moment, Ending, goes_on, crashes, Life, LifeLeads, Lives, new_state}
 use Rattle.rusty_leveldb.specs.Machines.Laws.{asked_by}
 use Rattle.rusty_leveldb.specs.Machines.Shown.{changes_of, store_mode_of, HasMap, AreShownAs, IsShownAs, written_by, IsWriteCutShort, TellsEvents, TellsLife, TellsLives, IsOpenedIn, AreOpenedIn, LivesAreStories, RunsAreStories}
@@ -39,6 +40,34 @@ module _ (cmp : List ℕ → List ℕ → Ordering) (old new : State) (request :
   order_after (releases one asked m r) = ap (λ (s : State). s.format.order) r.state ∙ order
   order_after (closes asked c) = ap (λ (s : State). s.format.order) c.state ∙ order
   order_after (abandons locked asked a) = ap (λ (s : State). s.format.order) a.state ∙ order
+
+-- the order of keys is none of an opening's row
+done_in_any : (a b : List ℕ → List ℕ → Ordering) (old new : UserStore) (outcome : CallOutcome)
+    → CallRow a is_closed old headline.open_store outcome new
+    → CallRow b is_closed old headline.open_store outcome new
+done_in_any a b old new headline.done row = row
+done_in_any a b old new (headline.failed why) row = row
+done_in_any a b old new (headline.found value) row = absurd row.1
+done_in_any a b old new (headline.walked results) row = absurd row.1
+done_in_any a b old new (headline.snapshot number) row = absurd row.1
+done_in_any a b old new (headline.barred mode) row = absurd row.1
+
+pub opens_in_any : (a b : List ℕ → List ℕ → Ordering) (old new : UserStore) (call : Call)
+    (outcome : CallOutcome) → old.mode ≡ is_closed → call ≡ headline.open_store
+    → CallRow a old.mode old call outcome new
+    → CallRow b old.mode old headline.open_store outcome new
+opens_in_any a b old new call outcome closed_so is row =
+    subst (λ mode. CallRow b mode old headline.open_store outcome new) (sym closed_so)
+    (done_in_any a b old new outcome
+    (subst (λ mode. CallRow a mode old headline.open_store outcome new) closed_so
+    (subst (λ c. CallRow a old.mode old c outcome new) is row)))
+
+-- an opening that is done has its format
+pub opened_format : (at : Setting) (opening : Opening) (old new : State) (mode : Mode)
+    → Step mode at old (open_store opening) done new → new.format.order ≡ opening.format.order
+opened_format at opening old new closed step = ap (λ (s : State). s.format.order) step.1.state
+opened_format at opening old new broken step = absurd step
+opened_format at opening old new open_mode step = absurd step
 
 -- ---- crashes
 

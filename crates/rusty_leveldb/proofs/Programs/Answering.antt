@@ -7,7 +7,6 @@ use Rattle.std.specs.declared.alloc.Global.{Global}
 use Rattle.std.specs.declared.io.Read.{Ghosts as ReadGhosts}
 use Rattle.std.specs.declared.io.Write.{Ghosts as WriteGhosts}
 use Rattle.std.proofs.Math.Seq.{drop-append_seam}
-use Rattle.leveldb_base.specs.Cmp.{bytewise}
 use Rattle.leveldb_base.specs.declared.cmp.DefaultCmp.{DefaultCmp}
 use Rattle.leveldb_base.specs.declared.error.Status.{Status}
 use Rattle.leveldb_env.specs.declared.env.Env.{Ghosts}
@@ -27,7 +26,9 @@ use Rattle.rusty_leveldb.specs.declared.shell.program.Way.{Way}
 use Rattle.rusty_leveldb.specs.declared.shell.program.Way.TheVariants as way
 use Rattle.rusty_leveldb.specs.Programs.Program.{status_of, ldb_boxes, ldb_filters, ldb_keys, ldb_opening, AreLdbOptions, EndsProgram, HasPlayed, HasRunBy, IsAnswered, IsFault, IsPlayed, IsStopped, NamesFolder, OnWhole, RunsByDefault}
 use Rattle.rusty_leveldb.specs.Programs.RunCalls.{RunsByCalls}
-use Rattle.rusty_leveldb.specs.Programs.Story.{IsRunStory}
+use Rattle.rusty_leveldb.specs.Engines.Witness.{stored}
+use Rattle.rusty_leveldb.specs.Programs.Story.{SaysRun}
+use Rattle.rusty_leveldb.proofs.Programs.Playing.{OnlyNow}
 use Rattle.rusty_leveldb.proofs.Programs.RunStories.{run_story}
 
 -- a fault's status isn't 0
@@ -108,19 +109,21 @@ module _ {E F S V : Type 0} {sink : S → Type 0} (row : V → Type 0) (none : V
   by_default are asks way.Alone calls = tt
 
   -- what was run over a store that isn't read alone is a story
-  is_story : (one : Way) → HasRunBy env one folder ldb_opening commands from given ended to
-      → OnWhole one (IsRunStory env bytewise commands from given ended to)
-  is_story way.Whole run = run_story env folder ldb_opening commands from to given ended run
-  is_story way.Alone run = tt
+  is_story : OnlyNow env → (one : Way)
+      → HasRunBy env one folder ldb_opening commands from given ended to
+      → OnWhole one (SaysRun env stored folder ldb_opening.format commands from given ended to)
+  is_story only_now way.Whole run =
+      run_story env only_now folder ldb_opening commands from to given ended run
+  is_story only_now way.Alone run = tt
 
   -- so the program ran the commands
-  pub has_played : (one : Way) → HasRunBy env one folder wanted commands from given ended to → OnWhole one (Calls wanted)
+  pub has_played : OnlyNow env → (one : Way) → HasRunBy env one folder wanted commands from given ended to → OnWhole one (Calls wanted)
       → AreLdbOptions (boxes_of S V sink row) log choices options → wanted ≡ ldb_opening
       → HasPlayed env log one folder commands from given ended to
-  has_played one run calls are asks =
+  has_played only_now one run calls are asks =
       let asked = subst (λ (o : Opening). HasRunBy env one folder o commands from given ended to) asks
       run in
-      (is_story one asked, asked, by_default are asks one calls)
+      (is_story only_now one asked, asked, by_default are asks one calls)
 
 -- a run that went through, whose replies were written
 pub played : {E F S : Type 0} {sink : S → Type 0} (env : Ghosts E F) (log : Option (Logger S sink)) (one : Way) (folder : List ℕ) (commands : List Command) (from to : E) (held holds : Option (List ℕ)) (old new told : List Reply)

@@ -23,7 +23,8 @@ use Rattle.rusty_leveldb.specs.Headline.{KeyChange, Call, CallOutcome, Why}
 use Rattle.rusty_leveldb.specs.Machines.State.{Snapshot, release_snapshot, Answer, done, found, walked, snapshot, refused}
 use Rattle.rusty_leveldb.specs.Machines.Shown.{changes_of, walk_move_of, IsCallOf, IsResultOf, AreResultsOf, IsOutcomeOf}
 use Rattle.rusty_leveldb.specs.Programs.Shell.{IsReplyOf, change_of, given_by, request_of, snapshot_named}
-use Rattle.rusty_leveldb.specs.Programs.Story.{change_for, move_for, IsCallFor, IsRefusedWith, IsResultFor, AreResultsFor, IsReplyFor, number_in}
+use Rattle.rusty_leveldb.specs.Programs.Story.{change_for, IsCallFor, IsReplyFor, number_in}
+use Rattle.rusty_leveldb.specs.Says.{move_for, IsRefusedWith, IsResultFor, AreResultsFor}
 use Rattle.rusty_leveldb.specs.Programs.Views.{no_snapshot}
 use Rattle.rusty_leveldb.specs.Walks.Walks.{move_of, landing_of}
 use Rattle.rusty_leveldb.proofs.Headline.OwnLemmas.{IsOwn}
@@ -52,7 +53,7 @@ same_move Next = refl
 same_move Prev = refl
 same_move (Seek key) = refl
 
-same_moves : (moves : List Move) → map walk_move_of (map move_of moves) ≡ map move_for moves
+pub same_moves : (moves : List Move) → map walk_move_of (map move_of moves) ≡ map move_for moves
 same_moves [] = refl
 same_moves (move ∷ moves) = λ i. same_move move i ∷ same_moves moves i
 
@@ -145,7 +146,7 @@ call_for taken command.Close answer call asked own = asked
 pub refused_with : (status : Status) (outcome : CallOutcome)
     → IsOutcomeOf (refused (refusal_of status)) outcome → IsRefusedWith status outcome
 refused_with status outcome (inl is) = subst (IsRefusedWith status) (sym is.0) is.1
-refused_with status outcome (inr (inl is)) = subst (IsRefusedWith status) (sym is.0) is.1.0
+refused_with status outcome (inr (inl is)) = subst (IsRefusedWith status) (sym is.0) is.1
 refused_with status outcome (inr (inr is)) = subst (IsRefusedWith status) (sym is.1) is.2
 
 led_to : (step : Step) (result : Result (Option headline.Pair) Why)
@@ -154,7 +155,7 @@ led_to (At key value) result is = is
 led_to Invalid result is = is
 led_to (Refused status) result is = subst (IsResultFor (Refused status)) (sym is.1) is.2
 
-each_led_to : (steps : List Step) (results : List (Result (Option headline.Pair) Why))
+pub each_led_to : (steps : List Step) (results : List (Result (Option headline.Pair) Why))
     → AreResultsOf (map landing_of steps) results → AreResultsFor steps results
 each_led_to [] [] are = refl
 each_led_to [] (result ∷ results) are = absurd are

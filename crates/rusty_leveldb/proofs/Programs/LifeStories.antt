@@ -14,7 +14,7 @@ use Rattle.rusty_leveldb.specs.Machines.Shown.{call_of, IsCallOf, IsResultOf, Ar
 use Rattle.rusty_leveldb.specs.Engines.Serves.{IsConversation, refusal_of}
 use Rattle.rusty_leveldb.specs.Programs.Lives.{requests_of, answers_of, moments_of, IsReportOf, ending_of}
 use Rattle.rusty_leveldb.specs.Programs.Shell.{AreAsked, AreTurns, Turn, given_by, request_of}
-use Rattle.rusty_leveldb.specs.Programs.Story.{AreCalled, AreEventsOf, AreEventsOfLife, AreMomentsOf, IsCutShort, AreEventsUntil, IsLifeStory}
+use Rattle.rusty_leveldb.specs.Programs.Story.{AreCalled, AreCutShort, AreEventsOf, AreEventsOfLife, AreMomentsOf, IsCutShort, AreEventsUntil, IsLifeStory}
 use Rattle.rusty_leveldb.proofs.Headline.OwnLemmas.{AreOwn}
 use Rattle.rusty_leveldb.proofs.Programs.CallsMade.{numbers, call_for, reply_for, refused_with, numbers_then}
 
@@ -329,6 +329,38 @@ TellsOwnLife events goes_on told = TellsEvents events told × AreOwn [] events t
 TellsOwnLife events (crashes moment inside counted) told =
     (tells : TellsCrash events moment told) × AreOwn [] tells.done tells.before
 
+module _ (events : List Event) (moment : ℕ) (told : List StoryEvent)
+    (is_told : (tells : TellsCrash events moment told) × AreOwn [] tells.done tells.before) where
+  -- all that would have been told
+  abbrev pub all_told : List StoryEvent
+  all_told = is_told.0.before ++ would_tell is_told.0.undone
+
+  pub all_tells : TellsEvents events all_told
+  all_tells = subst (λ es. TellsEvents es all_told) (sym is_told.0.split)
+      (tells_both is_told.0.done is_told.0.undone is_told.0.before (would_tell is_told.0.undone)
+      is_told.0.answers (tells_would is_told.0.undone))
+
+  pub all_own : AreOwn [] events all_told
+  all_own = subst (λ es. AreOwn [] es all_told) (sym is_told.0.split)
+      (own_both [] is_told.0.done is_told.0.undone is_told.0.before is_told.0.answers is_told.1)
+
+  -- what is told is cut short
+  pub all_cut : AreCutShort all_told told
+  all_cut = (
+    is_told.0.before,
+    would_tell is_told.0.undone,
+    is_told.0.cut,
+    refl,
+    by is_told.0.undone is_told.0.cut is_told.0.is_cut,
+    is_told.0.told_is,
+  )
+    where
+      by : (undone : List Event) (cut : Option Batch) → IsWriteCutShort undone cut
+          → IsCutShort (would_tell undone) cut
+      by [] cut is = is
+      by (event ∷ undone) cut is =
+          write_cut event.request (outcome_for event.answer) (would_tell undone) cut is
+
 module _ (opening : Opening) (commands : List Command) (report : Report) (start : ℕ)
     (requests : List Request) (answers : List Answer) (moments : List ℕ) (events : List Event)
     (is : IsReportOf opening commands report requests answers moments)
@@ -373,17 +405,12 @@ module _ (opening : Opening) (commands : List Command) (report : Report) (start 
       whole told told None is_told.0 is_told.1 (sym (timed_told start events told is_told.0))
   life_story (Some moment) told is_told =
       let tells = is_told.0 in
-      let all = tells.before ++ would_tell tells.undone in
-      let both : TellsEvents events all =
-      subst (λ es. TellsEvents es all) (sym tells.split)
-      (tells_both tells.done tells.undone tells.before (would_tell tells.undone) tells.answers
-      (tells_would tells.undone)) in
-      let own : AreOwn [] events all = subst (λ es. AreOwn [] es all) (sym tells.split)
-      (own_both [] tells.done tells.undone tells.before tells.answers is_told.1) in
-      whole all told (Some moment) both own (record {
+      whole (all_told events (start + moment) told is_told) told (Some moment)
+      (all_tells events (start + moment) told is_told) (all_own events (start + moment) told is_told)
+      (record {
         before = timed start tells.done tells.before;
         after = timed start tells.undone (would_tell tells.undone);
-        split = ap (λ es. timed start es all) tells.split
+        split = ap (λ es. timed start es (all_told events (start + moment) told is_told)) tells.split
             ∙ timed_both start tells.done tells.undone tells.before (would_tell tells.undone)
             tells.answers;
         come = all_come start moment tells.done tells.before tells.by_then;

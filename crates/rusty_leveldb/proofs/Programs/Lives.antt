@@ -1,7 +1,8 @@
 -- Lives of a store, one after another: they are one run of the machine if each crash was honest.
-use Rattle.std.proofs.Common.{◌≡◌, ◌≤◌, ◌+◌, ◌-◌, ◌%◌, ◌/◌, ◌==◌, inl, inr, ⊎_elim, ℕ, suc, Bool, true, false, List, [], ◌∷◌, ◌++◌, refl, sym, ◌∙◌, ap, subst, arith, Option, Some, None, Ok, Err, IsTrue}
+use Rattle.std.proofs.Common.{◌≡◌, ◌≤◌, ◌+◌, ◌-◌, ◌%◌, ◌/◌, ◌==◌, inl, inr, ℕ, suc, Bool, true, false, List, [], ◌∷◌, ◌++◌, refl, sym, ◌∙◌, ap, subst, arith, Option, Some, None, Ok, Err, IsTrue}
 use Rattle.std.specs.Prelude.{◌↔◌, ◌⊎◌, All, map, Vec}
 use Rattle.std.specs.declared.alloc.Global.{Global}
+use Rattle.std.specs.declared.cmp.Ordering.{Ordering}
 use Rattle.leveldb_base.specs.declared.cmp.Cmp.{Ghosts as CmpGhosts}
 use Rattle.leveldb_env.specs.declared.compressor.CompressorList.{CompressorList}
 use Rattle.leveldb_env.specs.Compressor.{Codings}
@@ -22,7 +23,7 @@ use Rattle.leveldb_env.specs.MemEnv.{files_of}
 use Rattle.leveldb_env.specs.Picks.{picked, tails_of}
 use Rattle.leveldb_disks.specs.Record.{record_observed, moment_of, failures_of, files_in, files_then, SameObserved}
 use Rattle.rusty_leveldb.specs.declared.shell.crash_runs.Report.{Report}
-use Rattle.rusty_leveldb.specs.Machines.State.{State, Opening, closed}
+use Rattle.rusty_leveldb.specs.Machines.State.{State, Opening}
 use Rattle.leveldb_files.specs.Histories.Holds.{IsHonest}
 use Rattle.leveldb_files.specs.Stores.Store.{HasNoStore}
 use Rattle.leveldb_files.specs.Steps.StoreSteps.{AppendedAreBytes}
@@ -33,25 +34,18 @@ use Rattle.rusty_leveldb.specs.Engines.Engine.{IsStoreName, opening_of}
 use Rattle.rusty_leveldb.specs.Programs.Lives.{IsLife, with_name, ending_of, IsCrash, IsHonestCrash, IsNextDevice, IsReportOf, IsLifeOn, AreReports, AreReportsFromNone, IsLifeOf, AreLivesOf, AreOneRun, HasNoCrash, ReportsLives}
 use Rattle.leveldb_files.proofs.Histories.SafeLemmas.{front_honest}
 use Rattle.rusty_leveldb.proofs.Engines.ReadsLemmas.{nothing_stands}
-use Rattle.rusty_leveldb.specs.Programs.Story.{AreOneStory, HaveNoTails}
-use Rattle.rusty_leveldb.proofs.Programs.Meanings.{opens_so}
-use Rattle.rusty_leveldb.proofs.Programs.Storied.{one_story}
-use Rattle.leveldb_env.specs.Options.{Boxed}
+use Rattle.rusty_leveldb.specs.Programs.Story.{AreStories, GoesOn, IsLeftAt, IsLifeStory, IsLifeTold, SaysLives}
+use Rattle.rusty_leveldb.specs.Engines.Witness.{IsHeldBy, stored}
+use Rattle.rusty_leveldb.specs.Headline.{StoryEvent, UserStore, fresh_store, is_closed, IsStory}
+use Rattle.rusty_leveldb.specs.Says.{Place}
+use Rattle.rusty_leveldb.proofs.Engines.SaysLemmas.{stored_is_showing}
+use Rattle.rusty_leveldb.proofs.Programs.StoreNames.{opens_so}
+use Rattle.rusty_leveldb.proofs.Programs.Storied.{closed_then, moments_again, says_lived}
+use Rattle.leveldb_env.specs.Options.{Boxed, OptionsOf}
 use Rattle.rusty_leveldb.specs.Engines.Boxes.{InternalOrder, LifeOf}
-use Rattle.leveldb_files.specs.Stores.Format.{Meaning, Agrees, format_of}
+use Rattle.leveldb_files.specs.Stores.Format.{Format, Meaning, Agrees, format_of}
 
--- ---- moments from a life's start
-
--- moments that were counted from a start, counted from 0 again
-moments_again : (start : ℕ) (events : List Event) → All (λ (event : Event). start ≤ event.moment) events
-    → map (λ m. start + m) (map (λ m. m - start) (map (λ (event : Event). event.moment) events))
-    ≡ map (λ (event : Event). event.moment) events
-moments_again start [] all = refl
-moments_again start (event ∷ events) all =
-    let low = all 0 event (omega arith) in
-    let same : start + (event.moment - start) ≡ event.moment = omega (arith, low) in
-    let rest = moments_again start events (λ k d lt. all (suc k) d (omega (arith, lt))) in
-    λ i. same i ∷ rest i
+-- ---- moments of a device
 
 -- between two calls of a device the files were one
 even_files : (first : Files) (calls : List Call) (moment : ℕ) (files : Files) → (moment % 2 == 1) ≡ false
@@ -81,13 +75,6 @@ module _ {C FP : Type 0} {B : Boxed} (cmp : CmpGhosts C) (filters : FilterGhosts
   reports_more device (one ∷ lives) [] mid to end life report are is next = absurd are
 
 -- ---- a run of the machine
-
--- a store is closed after a crash
-closed_then : (meaning : Meaning) (last_answer moment : ℕ) (inside : Bool) (failures : ℕ) (state : State) (undone : List Event) (end : ℕ) (last new : State)
-    → CrashBefore meaning last_answer moment inside failures state undone end last new → new.mode ≡ closed
-closed_then meaning last_answer moment inside failures state [] end last new crash = ap (λ (s : State). s.mode) crash.2.state
-closed_then meaning last_answer moment inside failures state (next ∷ later) end last new crash = ⊎_elim
-    (λ none. ap (λ (s : State). s.mode) none.2.state) (λ some. ap (λ (s : State). s.mode) some.1.state) crash.4
 
 same_disk : (device from : RecordEnv) → SameObserved device from → (record_observed from).disk ≡ (record_observed device).disk
 same_disk device from same = λ i. record { files = same.files i; locked = same.locks i }
@@ -217,26 +204,145 @@ module _ {C FP : Type 0} {B : Boxed} (cmp : CmpGhosts C) (filters : FilterGhosts
 
   -- ---- what is returned
 
-  story : (lives : List (LifeOf C FP B)) (reports : List Report) → AreReportsFromNone ghosts cmp filters codings keys key_filters store (IsHonestCrash store) lives reports → AreOneStory cmp filters codings lives reports
-  story lives reports are = one_story ghosts cmp filters codings keys key_filters store lives reports (one_run lives reports are)
-
-  kept : (lives : List (LifeOf C FP B)) (reports : List Report) → AreReportsFromNone ghosts cmp filters codings keys key_filters store IsCrash lives reports → HaveNoTails lives → AreReportsFromNone ghosts cmp filters codings keys key_filters store (IsHonestCrash store) lives reports
+  kept : (lives : List (LifeOf C FP B)) (reports : List Report) → AreReportsFromNone ghosts cmp filters codings keys key_filters store IsCrash lives reports → All (λ life. life.pick.tails.items ≡ []) lives → AreReportsFromNone ghosts cmp filters codings keys key_filters store (IsHonestCrash store) lives reports
   kept lives reports are none = (are.0, record { first = are.1.first; empty = are.1.empty; fresh = are.1.fresh; reports_are = honest_lives are.1.first lives reports are.0 none are.1.reports_are })
 
   pub all_reported : (lives : List (LifeOf C FP B)) (reports : Vec Report Global) → AreReportsFromNone ghosts cmp filters codings keys key_filters store IsCrash lives reports.items → ReportsLives ghosts cmp filters codings keys key_filters store lives (Ok reports)
   all_reported lives reports are = record {
-    story = story lives reports.items;
     reports = are;
     run = one_run lives reports.items;
     kept = kept lives reports.items are;
     error = tt;
   }
 
-  pub story_reported : (lives : List (LifeOf C FP B)) (reports : List Report) → AreReportsFromNone ghosts cmp filters codings keys key_filters store IsCrash lives reports → HaveNoTails lives → AreOneStory cmp filters codings lives reports
-  story_reported lives reports are none = story lives reports (kept lives reports are none)
-
   pub fails_for : (lives : List (LifeOf C FP B)) (e : Status) → IsOutOfMemory e ⊎ ((e.code ≡ InvalidArgument) × HasNoCrash ghosts cmp filters codings keys key_filters store lives) → ReportsLives ghosts cmp filters codings keys key_filters store lives (Err e)
-  fails_for lives e cause = record { story = tt; reports = tt; run = tt; kept = tt; error = cause }
+  fails_for lives e cause = record { reports = tt; run = tt; kept = tt; error = cause }
+
+-- ---- stories
+
+-- where a store of this name is
+abbrev place_of : List ℕ → Meaning → Place
+place_of name meaning = record { name = name; meaning = meaning }
+
+module _ {C FP : Type 0} {B : Boxed} (cmp : CmpGhosts C) (filters : FilterGhosts FP)
+    (codings : CompressorList B.compressors B.compressor → Codings) (keys : InternalOrder C)
+    (key_filters : FilterGhosts FP) (store : List ℕ) (meaning : Meaning)
+    (order : List ℕ → List ℕ → Ordering) where
+  abbrev format : OptionsOf C FP B → Format
+  format options = format_of cmp filters codings options
+
+  abbrev Stories : RecordEnv → UserStore → List (LifeOf C FP B) → List Report → Type 0
+  Stories device shows lives reports =
+      AreStories ghosts stored (place_of store meaning) order device shows lives reports
+
+  -- one life, and what comes after it
+  module _ (device to next : RecordEnv) (life : LifeOf C FP B) (report : Report)
+      (lives : List (LifeOf C FP B)) (reports : List Report) (shows : UserStore)
+      (agrees : Agrees (format life.options) meaning) (ordered : (format life.options).order ≡ order)
+      (held : IsHeldBy (place_of store meaning) (record_observed device).disk shows)
+      (is : IsLifeOn ghosts cmp filters codings keys key_filters store device life report to)
+      (rest : (last : UserStore) → IsHeldBy (place_of store meaning) (record_observed next).disk last
+      → Stories next last lives reports) where
+    told_from : IsLifeTold ghosts stored (place_of store meaning) order shows life.commands.items is.from report to
+    told_from = subst (λ o. IsLifeTold ghosts stored (place_of store meaning) o shows life.commands.items is.from report to)
+        ordered
+        (says_lived ghosts store (opening_of cmp filters codings life.options) life.commands.items
+        is.from report to is.life_is meaning agrees shows
+        (subst (λ disk. IsHeldBy (place_of store meaning) disk shows) (sym (same_disk device is.from is.same)) held))
+
+    told : IsLifeTold ghosts stored (place_of store meaning) order shows life.commands.items device report to
+    told = record {
+      leads = told_from.leads;
+      crashes = λ moment left at. told_from.crashes moment left
+          (subst (λ m. IsLeftAt stored store (record_observed to) (m + moment) left)
+          (sym is.same.moment) at);
+    }
+
+    abbrev GoesTo : Option ℕ → RecordEnv → Type 0
+    GoesTo moment then = (events : List StoryEvent) × (last : UserStore)
+        × IsLifeStory life.commands.items moment report events
+        × IsStory order shows events last × Stories then last lives reports
+
+    goes : (moment : Option ℕ) → IsNextDevice IsCrash (moment_of device) moment life.pick to next
+        → GoesOn ghosts stored store moment life.pick device to (GoesTo moment)
+    goes None follows =
+        let all = told.leads in
+        let last = all.2.0 in (
+          all.0,
+          last,
+          all.1,
+          all.2.1,
+          subst (λ d. Stories d last lives reports) follows
+              (rest last (subst (λ d. IsHeldBy (place_of store meaning) (record_observed d).disk last) (sym follows)
+              all.2.2)),
+        )
+    goes (Some moment) crash =
+        let at = moment_of device + moment in
+        let files = files_then to at life.pick.after in (
+          files,
+          next,
+          record {
+            come = crash.come;
+            stood = crash.stood;
+            crashes = crash.leaves;
+            picked_are = crash.files;
+            free = crash.fresh.free;
+          },
+          λ honest.
+              let one = told.crashes moment (record_observed next).disk (record {
+                come = crash.come;
+                files = files;
+                stood = crash.stood;
+                is_left = record {
+                  crashes = crash.leaves;
+                  honest = honest;
+                  free = crash.fresh.free;
+                };
+              }) in
+              let last = one.2.0 in (one.0, last, one.1, one.2.1, rest last one.2.2),
+        )
+
+    pub one_story : IsNextDevice IsCrash (moment_of device) life.moment life.pick to next
+        → Stories device shows (life ∷ lives) (report ∷ reports)
+    one_story follows = (held, to, told, goes life.moment follows)
+
+  stories_on : (device : RecordEnv) (lives : List (LifeOf C FP B)) (reports : List Report)
+      (end : RecordEnv) (shows : UserStore) → All (λ life. Agrees (format life.options) meaning) lives
+      → All (λ life. (format life.options).order ≡ order) lives
+      → IsHeldBy (place_of store meaning) (record_observed device).disk shows
+      → AreReports ghosts cmp filters codings keys key_filters store IsCrash device lives reports end
+      → Stories device shows lives reports
+  stories_on device [] [] end shows agree ordered held are = held
+  stories_on device (life ∷ lives) (report ∷ reports) end shows agree ordered held are =
+      one_story device are.0 are.2 life report lives reports shows
+      (All-head (λ (one : LifeOf C FP B). Agrees (format one.options) meaning) life lives agree)
+      (All-head (λ (one : LifeOf C FP B). (format one.options).order ≡ order) life lives ordered)
+      held are.1
+      (λ last holds. stories_on are.2 lives reports end last
+      (All-tail (λ (one : LifeOf C FP B). Agrees (format one.options) meaning) life lives agree)
+      (All-tail (λ (one : LifeOf C FP B). (format one.options).order ≡ order) life lives ordered)
+      holds are.4) are.3
+  stories_on device [] (report ∷ reports) end shows agree ordered held are = absurd are
+  stories_on device (life ∷ lives) [] end shows agree ordered held are = absurd are
+
+module _ {C FP : Type 0} {B : Boxed} (cmp : CmpGhosts C) (filters : FilterGhosts FP)
+    (codings : CompressorList B.compressors B.compressor → Codings) (keys : InternalOrder C)
+    (key_filters : FilterGhosts FP) (store : List ℕ) where
+  -- from an empty device on
+  pub says_lives : (lives : List (LifeOf C FP B)) (reports : List Report)
+      → AreReportsFromNone ghosts cmp filters codings keys key_filters store IsCrash lives reports
+      → SaysLives ghosts stored (format_of cmp filters codings) store lives reports
+  says_lives lives reports are meaning order agree ordered =
+      let first = are.1.first in
+      let bytes : AppendedAreBytes (files_in first) = λ name file is.
+      absurd (let never : None ≡ Some file = sym (are.1.empty name) ∙ is in cc) in (
+        first,
+        stories_on cmp filters codings keys key_filters store meaning order first lives reports are.0
+            (fresh_store [] 0 is_closed) agree ordered
+            (stored_is_showing.fresh (place_of store meaning)
+            (record_observed first).disk
+            (λ path under. (are.1.empty path, are.1.fresh.free path)) bytes) are.1.reports_are,
+      )
 
 -- the device that comes next, by whether the life has a crash
 pub next_crash : (Crash : RecordEnv → ℕ → Pick → RecordEnv → Type 0) (start at moment : ℕ) (was : Option ℕ) (pick : Pick) (to left end : RecordEnv) → was ≡ Some moment → at ≡ start → end ≡ left → Crash to (at + moment) pick left → IsNextDevice Crash start was pick to end

@@ -1,37 +1,32 @@
--- The reports of lives are one story of the headline, since they are one run of the machine.
-use Rattle.std.proofs.Common.{◌≡◌, Bool, false, ℕ, List, [], ◌∷◌, ◌++◌, refl, sym, ◌∙◌, subst, None, Result, Ok, Err}
-use Rattle.std.specs.Prelude.{All, map, OnOk}
+-- What the report of a life says is a story of the headline, since the life is a run of the machine.
+use Rattle.std.proofs.Common.{◌≡◌, ◌≤◌, ◌+◌, ◌-◌, ⊎_elim, inl, inr, ℕ, suc, Bool, true, false, List, [], ◌∷◌, ◌++◌, refl, sym, ◌∙◌, ap, subst, arith, Option, Some, None, Result, Ok, Err, IsTrue}
+use Rattle.std.specs.Prelude.{◌↔◌, ◌⊎◌, All, map, OnOk}
 use Rattle.std.specs.declared.cmp.Ordering.{Ordering}
 use Rattle.std.proofs.lemmas.List.Elements.{All-append, All-cons, All-head, All-nil, All-tail}
-use Rattle.leveldb_base.specs.declared.cmp.Cmp.{Ghosts as CmpGhosts}
 use Rattle.leveldb_base.specs.declared.error.Status.{Status}
+use Rattle.leveldb_env.specs.Env.{Disk}
 use Rattle.leveldb_env.specs.declared.env.Env.{Ghosts}
-use Rattle.leveldb_env.specs.declared.compressor.CompressorList.{CompressorList}
-use Rattle.leveldb_env.specs.declared.filter.FilterPolicy.{Ghosts as FilterGhosts}
-use Rattle.leveldb_env.specs.Compressor.{Codings}
-use Rattle.leveldb_env.specs.Options.{Boxed}
-use Rattle.leveldb_disks.specs.declared.mem_env.record.RecordEnv.{RecordEnv}
-use Rattle.leveldb_files.specs.Stores.Format.{Format, Meaning}
+use Rattle.leveldb_files.specs.Stores.Format.{Agrees, Meaning}
 use Rattle.rusty_leveldb.specs.declared.shell.commands.Command.{Command}
 use Rattle.rusty_leveldb.specs.declared.shell.commands.Command.TheVariants as command
 use Rattle.rusty_leveldb.specs.declared.shell.commands.Reply.{Reply}
 use Rattle.rusty_leveldb.specs.declared.shell.crash_runs.Report.{Report}
-use Rattle.rusty_leveldb.specs.Engines.Boxes.{InternalOrder, LifeOf}
-use Rattle.rusty_leveldb.specs.Engines.Engine.{opening_of}
-use Rattle.rusty_leveldb.specs.Headline.{StoryEvent, UserStore, crash, fresh_store, is_closed, IsStory}
+use Rattle.rusty_leveldb.specs.Engines.Engine.{IsStoreName, scene}
+use Rattle.rusty_leveldb.specs.Engines.Serves.{IsConversation, Runs, StandsFor, recalls_nothing, refusal_of}
+use Rattle.rusty_leveldb.specs.Engines.Witness.{stored}
+use Rattle.rusty_leveldb.specs.Headline.{StoryEvent, UserStore, crash, IsStory}
 use Rattle.rusty_leveldb.specs.Machines.Runs as machine
-use Rattle.rusty_leveldb.specs.Machines.Runs.{new_state}
 use Rattle.rusty_leveldb.specs.Machines.Shown.{IsOpenedIn, IsShownAs}
-use Rattle.rusty_leveldb.specs.Machines.State.{Answer, IsState, Opening, Request, Snapshot, State, abandon, open_store}
-use Rattle.rusty_leveldb.specs.Programs.Lives.{AreLivesOf, AreOneRun, IsLifeOf, requests_of, with_name}
+use Rattle.rusty_leveldb.specs.Machines.State.{Answer, IsState, Opening, Request, Snapshot, State, abandon, closed, done, open_store, refused}
+use Rattle.rusty_leveldb.specs.Programs.Lives.{IsAlwaysLife, IsLife, answers_of, ending_of, requests_of, with_name}
 use Rattle.rusty_leveldb.specs.Programs.Shell.{AreAsked, AreTurns, Turn, given_by, request_of}
-use Rattle.rusty_leveldb.specs.Programs.Story.{IsLifeStory, AreLifeStories, AreOneStory}
+use Rattle.rusty_leveldb.specs.Programs.Story.{IsLeftAt, IsLifeStory, IsLifeTold, LeadsTo, SaysLived}
+use Rattle.rusty_leveldb.specs.Says.{Place}
 use Rattle.rusty_leveldb.proofs.Headline.OwnLemmas.{IsOpening, OpensFirst, first_told}
-use Rattle.rusty_leveldb.proofs.Headline.StoryLemmas.{both_told, cut_told, new_shown, order_left}
-use Rattle.rusty_leveldb.proofs.Machines.LawsLemmas.{new_is_state}
+use Rattle.rusty_leveldb.proofs.Headline.StoryLemmas.{both_told, cut_told}
 use Rattle.rusty_leveldb.proofs.Machines.RunsLemmas.{all_front}
 use Rattle.rusty_leveldb.proofs.Programs.LifeStories.{TellsOwnLife, life_story}
-use Rattle.rusty_leveldb.proofs.Programs.Meanings.{meaning_in, all_agree, named}
+use Rattle.rusty_leveldb.proofs.Programs.StoreNames.{named, opens_so}
 
 -- what holds of all that a list is mapped to
 pub all_mapped : {A B : Type 0} (P : B → Type 0) (f : A → B) (xs : List A) → All P (map f xs)
@@ -69,7 +64,7 @@ module _ (order : List ℕ → List ℕ → Ordering) where
       (commands : List Command) (replies : List Reply) (told : List Answer)
       → opening.format.order ≡ order → OnOk opened (AreAsked commands replies asked told)
       → All (IsOpenedIn order) (requests_of opening asked opened)
-  requests_opened opening asked (Ok done) commands replies told e are =
+  requests_opened opening asked (Ok opened) commands replies told e are =
       All-cons (IsOpenedIn order) (open_store opening) (asked ++ abandon ∷ []) e
       (All-append (IsOpenedIn order) asked (abandon ∷ [])
       (subst (All (IsOpenedIn order)) are.requests_are (turns_opened [] are.turns are.follow))
@@ -111,32 +106,57 @@ asked_open_none commands replies asked told are =
     (All-cons (λ (request : Request). IsOpening request → ⊥) abandon [] (λ is. is)
     (All-nil (λ (request : Request). IsOpening request → ⊥)))
 
-pub opens_first : (opening : Opening) (rest : List Request) (events : List machine.Event)
+-- a list that is mapped to none has none
+none_mapped : {A B : Type 0} (f : A → B) (xs : List A) → map f xs ≡ [] → xs ≡ []
+none_mapped f [] none = refl
+none_mapped f (x ∷ xs) none = absurd (cc)
+
+pub opens_first : (opening : Opening) (rest : List Request) (answer : Answer)
+    (others : List Answer) (events : List machine.Event)
     → map (λ (event : machine.Event). event.request) events ≡ open_store opening ∷ rest
-    → All (λ request. IsOpening request → ⊥) rest → OpensFirst events
-opens_first opening rest [] are none = tt
-opens_first opening rest (event ∷ events) are none =
+    → map (λ (event : machine.Event). event.answer) events ≡ answer ∷ others
+    → All (λ request. IsOpening request → ⊥) rest → (answer ≡ done) ⊎ (rest ≡ [])
+    → OpensFirst events
+opens_first opening rest answer others [] are told none ends = tt
+opens_first opening rest answer others (event ∷ events) are told none ends =
     let first : event.request ≡ open_store opening = cc in
-    let others : map (λ (event : machine.Event). event.request) events ≡ rest = cc in (
+    let later : map (λ (event : machine.Event). event.request) events ≡ rest = cc in
+    let answered : event.answer ≡ answer = cc in (
       (opening, first),
       all_mapped (λ (request : Request). IsOpening request → ⊥)
           (λ (event : machine.Event). event.request) events
-          (subst (All (λ (request : Request). IsOpening request → ⊥)) (sym others) none),
+          (subst (All (λ (request : Request). IsOpening request → ⊥)) (sym later) none),
+      ⊎_elim (λ is_done. inl (answered ∙ is_done))
+          (λ nothing. inr (none_mapped (λ (event : machine.Event). event.request) events
+          (later ∙ nothing))) ends,
     )
 
 -- so it is in a life
-life_opens_first : (opening : Opening) (asked : List Request) (opened : Result (Unit {0}) Status)
-    (commands : List Command) (replies : List Reply) (told : List Answer)
+pub life_opens_first : (opening : Opening) (asked : List Request) (opened : Result (Unit {0}) Status)
+    (commands : List Command) (replies : List Reply) (told : List Answer) (ending : Answer)
     (events : List machine.Event) → OnOk opened (AreAsked commands replies asked told)
     → map (λ (event : machine.Event). event.request) events ≡ requests_of opening asked opened
+    → map (λ (event : machine.Event). event.answer) events ≡ answers_of opened told ending
     → OpensFirst events
-life_opens_first opening asked (Ok done) commands replies told events are is =
-    opens_first opening (asked ++ abandon ∷ []) events is
-    (asked_open_none commands replies asked told are)
-life_opens_first opening asked (Err status) commands replies told events are is =
-    opens_first opening [] events is (All-nil (λ (request : Request). IsOpening request → ⊥))
+life_opens_first opening asked (Ok opened) commands replies told ending events are is answered =
+    opens_first opening (asked ++ abandon ∷ []) done (told ++ ending ∷ []) events is answered
+    (asked_open_none commands replies asked told are) (inl refl)
+life_opens_first opening asked (Err status) commands replies told ending events are is answered =
+    opens_first opening [] (refused (refusal_of status)) [] events is answered
+    (All-nil (λ (request : Request). IsOpening request → ⊥)) (inr refl)
 
 -- ---- lives, each event told by its own number
+
+-- a store is closed after a crash
+pub closed_then : (meaning : Meaning) (last_answer moment : ℕ) (inside : Bool) (failures : ℕ)
+    (state : State) (undone : List machine.Event) (end : ℕ) (last new : State)
+    → machine.CrashBefore meaning last_answer moment inside failures state undone end last new
+    → new.mode ≡ closed
+closed_then meaning last_answer moment inside failures state [] end last new cut =
+    ap (λ (s : State). s.mode) cut.2.state
+closed_then meaning last_answer moment inside failures state (next ∷ later) end last new cut =
+    ⊎_elim (λ none. ap (λ (s : State). s.mode) none.2.state)
+    (λ some. ap (λ (s : State). s.mode) some.1.state) cut.4
 
 module _ (cmp : List ℕ → List ℕ → Ordering) (meaning : Meaning) where
   -- what came about in a life, up to this state
@@ -147,18 +167,14 @@ module _ (cmp : List ℕ → List ℕ → Ordering) (meaning : Meaning) where
     pub tells : TellsOwnLife events ending told
     pub story : IsStory cmp store told next
     pub shown : IsShownAs last next
-    pub is : IsState last
-    pub order : last.format.order ≡ cmp
 
   own_life : (ending : machine.Ending) (events : List machine.Event) (start before after : ℕ)
       (old new : State) (store : UserStore) → IsState old → IsShownAs old store
-      → old.format.order ≡ cmp → OpensFirst events
-      → All (λ event. IsOpenedIn cmp event.request) events
+      → OpensFirst events → All (λ event. IsOpenedIn cmp event.request) events
       → machine.LifeLeads meaning start before old events ending after new
       → IsOwnLife events ending store new
-  own_life machine.goes_on events start before after old new store is shown order first opened
-      leads =
-      let run = first_told cmp meaning events before after old new store is shown order first opened
+  own_life machine.goes_on events start before after old new store is shown first opened leads =
+      let run = first_told cmp meaning events before after old new store is shown first opened
       leads in
       record {
         told = run.told;
@@ -166,14 +182,12 @@ module _ (cmp : List ℕ → List ℕ → Ordering) (meaning : Meaning) where
         tells = (run.tells, run.own);
         story = run.story;
         shown = run.shown;
-        is = run.is;
-        order = run.order;
       }
   own_life (machine.crashes moment inside counted) events start before after old new store is shown
-      order first opened leads =
+      first opened leads =
       let stops = leads.0.2 in
       let run = first_told cmp meaning stops.done before stops.failures old stops.state store is
-      shown order (first_front stops.done stops.undone (subst OpensFirst stops.split first))
+      shown (first_front stops.done stops.undone (subst OpensFirst stops.split first))
       (all_front (λ (e : machine.Event). IsOpenedIn cmp e.request) stops.done stops.undone
       (subst (All (λ (e : machine.Event). IsOpenedIn cmp e.request)) stops.split opened))
       stops.run in
@@ -201,117 +215,175 @@ module _ (cmp : List ℕ → List ℕ → Ordering) (meaning : Meaning) where
         story = both_told cmp run.told (crash cut.cut ∷ []) store run.next cut.told.left run.story
             (cut.told.left, cut.told.row, refl);
         shown = cut.told.shown;
-        is = cut.is;
-        order = order_left cmp meaning stops.undone (machine.last_moment start stops.done) moment
-            inside stops.failures leads.0.0 stops.state leads.0.1 new run.order stops.crash;
       }
     where
+      none_front : (front back : List machine.Event) → front ++ back ≡ [] → front ≡ []
+      none_front [] back none = refl
+      none_front (event ∷ front) back none = absurd (cc)
+
       first_front : (front back : List machine.Event) → OpensFirst (front ++ back)
           → OpensFirst front
       first_front [] back is = tt
       first_front (event ∷ front) back is = (
         is.0,
         all_front (λ (e : machine.Event). IsOpening e.request → ⊥) front back is.1,
+        ⊎_elim (λ is_done. inl is_done) (λ none. inr (none_front front back none)) is.2,
       )
 
--- ---- lives
+-- ---- a run of the machine, from a store that a disk holds
 
-module _ {C FP F : Type 0} {B : Boxed} (env : Ghosts RecordEnv F) (cmp : CmpGhosts C)
-    (filters : FilterGhosts FP) (codings : CompressorList B.compressors B.compressor → Codings)
-    (keys : InternalOrder C) (key_filters : FilterGhosts FP) (store : List ℕ)
-    (order : List ℕ → List ℕ → Ordering) (named : Bool) where
-  life_opened : (life : LifeOf C FP B) (report : Report) (one : machine.Life)
-      → IsLifeOf env cmp filters codings keys key_filters store named life report one
-      → cmp.cmp life.options.cmp ≡ order
-      → All (λ event. IsOpenedIn order event.request) one.events
-  life_opened life report one is e =
-      all_mapped (IsOpenedIn order) (λ (event : machine.Event). event.request) one.events
-      (subst (All (IsOpenedIn order)) (sym (is.asked.requests_are ∙ is.reported.requests_are))
-      (requests_opened order (with_name named (opening_of cmp filters codings life.options))
-      is.reported.asked report.opened life.commands.items
-      (map (λ (reply : ℕ × Reply). reply.1) report.replies.items) is.reported.told e
-      is.reported.are_asked))
+module _ {E F : Type 0} (env : Ghosts E F) (name : List ℕ) (meaning : Meaning)
+    (order : List ℕ → List ℕ → Ordering) (from to : E) (requests : List Request)
+    (answers : List Answer) (moments : List ℕ) (old : State) (store : UserStore)
+    (is : IsState old) (shown : IsShownAs old store)
+    (run : Runs name meaning recalls_nothing env.models_moments (scene env None from) requests
+    answers moments (scene env None to) old)
+    (first : OpensFirst run.events)
+    (opened : All (λ event. IsOpenedIn order event.request) run.events) where
+  abbrev place : Place
+  place = record { name = name; meaning = meaning }
 
-  -- ---- what is told
+  -- what came about in it, if it ended so, leads to what the disk holds
+  pub record IsToldTo (ending : machine.Ending) (disk : Disk) : Type 0 where
+    pub told : List StoryEvent
+    pub tells : TellsOwnLife run.events ending told
+    pub leads : LeadsTo stored place order store told disk
 
-  first_opens : (life : LifeOf C FP B) (report : Report) (one : machine.Life)
-      → IsLifeOf env cmp filters codings keys key_filters store named life report one
-      → OpensFirst one.events
-  first_opens life report one is =
-      life_opens_first (with_name named (opening_of cmp filters codings life.options))
-      is.reported.asked report.opened life.commands.items
-      (map (λ (reply : ℕ × Reply). reply.1) report.replies.items) is.reported.told one.events
-      is.reported.are_asked (is.asked.requests_are ∙ is.reported.requests_are)
+  pub all_told : IsToldTo machine.goes_on (env.observed to).disk
+  all_told =
+      let own = own_life order meaning machine.goes_on run.events (env.observed from).moment
+      (env.failures from) (env.failures to) old run.new store is shown first opened run.run in
+      record {
+        told = own.told;
+        tells = own.tells;
+        leads = (
+          own.next,
+          own.story,
+          (run.new, run.represents.disk_is, run.represents.memory_is, own.shown),
+        );
+      }
 
-  life_told : (life : LifeOf C FP B) (report : Report) (one : machine.Life)
-      (told : List StoryEvent)
-      → IsLifeOf env cmp filters codings keys key_filters store named life report one
-      → TellsOwnLife one.events one.ending told
-      → IsLifeStory life.commands.items life.moment report told
-  life_told life report one told is tells =
-      life_story (with_name named (opening_of cmp filters codings life.options))
-      life.commands.items report one.start is.requests is.answers is.moments one.events is.reported
-      is.asked life.moment told
-      (subst (λ ending. TellsOwnLife one.events ending told) is.ending tells)
+  -- and so does what came about before a crash
+  pub crash_told : (moment : ℕ) (left : Disk) → (env.observed from).moment ≤ moment
+      → IsLeftAt stored name (env.observed to) moment left
+      → IsToldTo (machine.crashes moment true 0) left
+  crash_told moment left since at =
+      let stops = run.stops moment true at.files left since (record {
+        come = at.come;
+        stood = at.stood;
+        leaves = at.is_left.crashes;
+        honest = at.is_left.honest;
+        free = at.is_left.free;
+      }) (λ never. absurd (let f : true ≡ false = never in cc)) in
+      let start = (env.observed from).moment in
+      let own = own_life order meaning (machine.crashes moment true 0) run.events start
+      (env.failures from) 0 old stops.0 store is shown first opened
+      ((env.failures to, run.new, stops.1), refl) in
+      record {
+        told = own.told;
+        tells = own.tells;
+        leads = (
+          own.next,
+          own.story,
+          (
+            stops.0,
+            stops.2,
+            closed_then meaning (machine.last_moment start stops.1.done) moment true
+                stops.1.failures stops.1.state stops.1.undone (env.failures to) run.new stops.0
+                stops.1.crash,
+            own.shown,
+          ),
+        );
+      }
 
-  -- what came about in all of them
-  abbrev pub AreTold : List (LifeOf C FP B) → List Report → UserStore → Type 0
-  AreTold lives reports store = (told : List StoryEvent) × (last : UserStore)
-      × AreLifeStories lives reports told × IsStory order store told last
+-- ---- a life
 
-  lives_told : (meaning : Meaning) (lives : List (LifeOf C FP B)) (reports : List Report)
-      (of_machine : List machine.Life) (before after : ℕ) (old last : State) (shows : UserStore)
-      → AreLivesOf env cmp filters codings keys key_filters store named lives reports of_machine
-      → All (λ life. cmp.cmp life.options.cmp ≡ order) lives
-      → IsState old → IsShownAs old shows → old.format.order ≡ order
-      → machine.Lives meaning before old of_machine after last → AreTold lives reports shows
-  lives_told meaning [] [] [] before after old last shows are ordered is shown order_is leads =
-      ([], shows, refl, refl)
-  lives_told meaning (life ∷ lives) (report ∷ reports) (one ∷ others) before after old last shows
-      are ordered is shown order_is leads =
-      let first = own_life order meaning one.ending one.events one.start before leads.0 old leads.1
-      shows is shown order_is (first_opens life report one are.0)
-      (life_opened life report one are.0
-      (All-head (λ (l : LifeOf C FP B). cmp.cmp l.options.cmp ≡ order) life lives ordered))
-      leads.2 in
-      let rest = lives_told meaning lives reports others leads.0 after leads.1 last first.next are.1
-      (All-tail (λ (l : LifeOf C FP B). cmp.cmp l.options.cmp ≡ order) life lives ordered)
-      first.is first.shown first.order leads.3 in (
-        first.told ++ rest.0,
-        rest.1,
-        (first.told, rest.0, refl, life_told life report one first.told are.0 first.tells, rest.2),
-        both_told order first.told rest.0 shows first.next rest.1 first.story rest.3,
-      )
-  lives_told meaning [] [] (one ∷ others) before after old last shows are ordered is shown order_is
-      leads = absurd are
-  lives_told meaning [] (report ∷ reports) others before after old last shows are ordered is shown
-      order_is leads = absurd are
-  lives_told meaning (life ∷ lives) [] others before after old last shows are ordered is shown
-      order_is leads = absurd are
-  lives_told meaning (life ∷ lives) (report ∷ reports) [] before after old last shows are ordered is
-      shown order_is leads = absurd are
+-- moments that were counted from a start, counted from 0 again
+pub moments_again : (start : ℕ) (events : List machine.Event)
+    → All (λ event. start ≤ event.moment) events
+    → map (λ m. start + m) (map (λ m. m - start) (map (λ (event : machine.Event). event.moment) events))
+    ≡ map (λ (event : machine.Event). event.moment) events
+moments_again start [] all = refl
+moments_again start (event ∷ events) all =
+    let low = all 0 event (omega arith) in
+    let same : start + (event.moment - start) ≡ event.moment = omega (arith, low) in
+    let rest = moments_again start events (λ k d lt. all (suc k) d (omega (arith, lt))) in
+    λ i. same i ∷ rest i
 
--- some format with an order of keys
-abbrev format_with : (List ℕ → List ℕ → Ordering) → Format
-format_with order = record {
-  order = order;
-  order_name = [];
-  codings = λ id. None;
-  policy_name = [];
-  matches = λ key filter. false;
-}
+module _ {E F : Type 0} (env : Ghosts E F) (name : List ℕ) (asked : Opening)
+    (commands : List Command) (from : E) (report : Report) (to : E)
+    (is_life : IsAlwaysLife env name from asked commands report to) (meaning : Meaning)
+    (agrees : Agrees asked.format meaning) (old : State) (store : UserStore)
+    (stands : StandsFor name meaning (env.observed from).disk old) (closed_so : old.mode ≡ closed)
+    (shown : IsShownAs old store) where
+  abbrev fits : (b : Bool) × (IsTrue b ↔ IsStoreName name)
+  fits = named name
 
-module _ {C FP F : Type 0} {B : Boxed} (env : Ghosts RecordEnv F) (cmp : CmpGhosts C)
-    (filters : FilterGhosts FP) (codings : CompressorList B.compressors B.compressor → Codings)
-    (keys : InternalOrder C) (key_filters : FilterGhosts FP) (store : List ℕ) where
-  pub one_story : (lives : List (LifeOf C FP B)) (reports : List Report)
-      → AreOneRun env cmp filters codings keys key_filters store lives reports
-      → AreOneStory cmp filters codings lives reports
-  one_story lives reports run order are =
-      let fits = named store in
-      let meaning = meaning_in cmp filters codings order lives in
-      let all = run (format_with order) fits.0 fits.1 meaning
-      (all_agree cmp filters codings order lives are) in
-      lives_told env cmp filters codings keys key_filters store order fits.0 meaning lives reports
-      all.0 0 all.2 (new_state (format_with order)) all.3 (fresh_store [] 0 is_closed) all.1
-      are.ordered (new_is_state (format_with order)) (new_shown (format_with order)) refl all.4
+  abbrev opening : Opening
+  opening = with_name fits.0 asked
+
+  abbrev start : ℕ
+  start = (env.observed from).moment
+
+  pub lived : IsLife env name meaning from opening commands report to old
+  lived = is_life opening (opens_so name fits.0 asked fits.1) meaning agrees old
+      (record { disk_is = stands; memory_is = closed_so })
+
+  abbrev from_start : List ℕ
+  from_start = map (λ m. m - start) lived.moments
+
+  -- its events, at moments that count from its start
+  pub asked_again : IsConversation lived.requests lived.answers (map (λ m. start + m) from_start)
+      lived.run.events
+  asked_again = subst
+      (λ ms. IsConversation lived.requests lived.answers ms lived.run.events)
+      (sym (subst (λ ms. map (λ m. start + m) (map (λ m. m - start) ms) ≡ ms)
+      lived.run.asked.moments_are (moments_again start lived.run.events lived.run.since)))
+      lived.run.asked
+
+  abbrev replies : List Reply
+  replies = map (λ (reply : ℕ × Reply). reply.1) report.replies.items
+
+  first : OpensFirst lived.run.events
+  first = life_opens_first opening lived.reported.asked report.opened commands replies
+      lived.reported.told lived.reported.ending lived.run.events lived.reported.are_asked
+      (lived.run.asked.requests_are ∙ lived.reported.requests_are)
+      (lived.run.asked.answers_are ∙ lived.reported.answers_are)
+
+  opened : All (λ event. IsOpenedIn asked.format.order event.request) lived.run.events
+  opened = all_mapped (IsOpenedIn asked.format.order) (λ (event : machine.Event). event.request)
+      lived.run.events
+      (subst (All (IsOpenedIn asked.format.order))
+      (sym (lived.run.asked.requests_are ∙ lived.reported.requests_are))
+      (requests_opened asked.format.order opening lived.reported.asked report.opened commands
+      replies lived.reported.told refl lived.reported.are_asked))
+
+  -- what came about up to its end or its crash is what its report says
+  reported : (moment : Option ℕ) (told : List StoryEvent)
+      → TellsOwnLife lived.run.events (ending_of start moment) told
+      → IsLifeStory commands moment report told
+  reported moment told = life_story opening commands report start lived.requests lived.answers
+      from_start lived.run.events lived.reported asked_again moment told
+
+  pub life_told : IsLifeTold env stored (record { name = name; meaning = meaning })
+      asked.format.order store commands from report to
+  life_told =
+      let all = all_told env name meaning asked.format.order from to lived.requests lived.answers
+      lived.moments old store stands.is_state shown lived.run first opened in
+      record {
+        leads = (all.told, reported None all.told all.tells, all.leads);
+        crashes = λ moment left at.
+            let told = crash_told env name meaning asked.format.order from to lived.requests
+            lived.answers lived.moments old store stands.is_state shown lived.run first opened
+            (start + moment) left (omega arith) at in
+            (told.told, reported (Some moment) told.told told.tells, told.leads);
+      }
+
+-- so it is from each store that the disk held
+pub says_lived : {E F : Type 0} (env : Ghosts E F) (name : List ℕ) (asked : Opening)
+    (commands : List Command) (from : E) (report : Report) (to : E)
+    → IsAlwaysLife env name from asked commands report to
+    → SaysLived env stored name asked.format commands from report to
+says_lived env name asked commands from report to is_life meaning agrees store held =
+    life_told env name asked commands from report to is_life meaning agrees held.0 store held.1
+    held.2 held.3

@@ -121,13 +121,13 @@ fails_for : (order : List ℕ → List ℕ → Ordering) (store : UserStore) (at
 fails_for order store at status meaning is_closed open_so why = absurd (open_so refl)
 fails_for order store at status meaning is_open open_so why = (
   headline.failed why.0,
-  inr (inr (why.0, refl, why.1.1, λ is. absurd (why.1.3 is))),
+  (why.1.1, λ is. absurd (why.1.3 (same_cause why.0 headline.compressor_failed is))),
   λ is. why.1.2 (same_cause why.0 headline.device_failed is),
   (why.1.0, refl),
 )
 fails_for order store at status meaning is_broken open_so why = (
   headline.failed why.0,
-  inr (inr (why.0, refl, why.1.1, λ is. absurd (why.1.3 is))),
+  (why.1.1, λ is. absurd (why.1.3 (same_cause why.0 headline.compressor_failed is))),
   λ is. why.1.2 (same_cause why.0 headline.device_failed is),
   (why.1.0, refl),
 )
@@ -137,8 +137,12 @@ walk_fails : (order : List ℕ → List ℕ → Ordering) (store : UserStore) (m
     → (mode ≡ is_closed → status.code ≡ InvalidArgument)
     → ((mode ≡ is_closed → ⊥) → (why : Why) × IsWhy status why)
     → FailsAsWalk order store at status meaning mode
-walk_fails order store is_closed at status meaning barred other =
-    (headline.barred is_closed, inl (refl, barred refl), (λ is. absurd (cc)), (refl, refl))
+walk_fails order store is_closed at status meaning barred other = (
+  headline.barred is_closed,
+  (barred refl, λ is. absurd (cc)),
+  (λ is. absurd (cc)),
+  (refl, refl),
+)
 walk_fails order store is_open at status meaning barred other =
     let open_so : is_open ≡ is_closed → ⊥ = λ never. absurd (cc) in
     fails_for order store at status meaning is_open open_so (other open_so)

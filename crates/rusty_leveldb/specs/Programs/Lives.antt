@@ -25,7 +25,6 @@ use Rattle.rusty_leveldb.specs.Machines.Runs as machine
 use Rattle.rusty_leveldb.specs.Machines.Runs.{Ending, goes_on, crashes, Lives, new_state}
 use Rattle.rusty_leveldb.specs.Engines.Serves.{Represents, Runs, recalls_nothing, IsConversation, refusal_of}
 use Rattle.rusty_leveldb.specs.Engines.Engine.{scene, IsStoreName, IsOpening, opening_of}
-use Rattle.rusty_leveldb.specs.Programs.Story.{AreOneStory}
 use Rattle.rusty_leveldb.specs.Programs.Shell.{AreAsked}
 use Rattle.leveldb_env.specs.Options.{Boxed}
 use Rattle.leveldb_store.specs.Tables.BuildTable.{choices_of}
@@ -216,10 +215,6 @@ module _ {C FP F : Type 0} {B : Boxed} (env : Ghosts RecordEnv F) (cmp : CmpGhos
   -- what `lives` returns
   pub record ReportsLives (lives : List (LifeOf C FP B))
       (result : Result (Vec Report Global) Status) : Type 0 where
-    -- if each crash was honest, they are a story of the headline
-    pub story : IfOk result
-        (λ reports. AreReportsFromNone (IsHonestCrash store) lives reports.items
-        → AreOneStory cmp filters codings lives reports.items)
     -- each report is of its life, on the device as the life before it left that, or as the crash of
     -- that life did
     pub reports : IfOk result (λ reports. AreReportsFromNone IsCrash lives reports.items)

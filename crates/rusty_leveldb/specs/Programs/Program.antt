@@ -37,7 +37,8 @@ use Rattle.rusty_leveldb.specs.Repairs.Repair.{Repairs}
 use Rattle.rusty_leveldb.specs.Programs.RunAlone.{HasReadAlone}
 use Rattle.rusty_leveldb.specs.Programs.RunCalls.{RunsByCalls}
 use Rattle.rusty_leveldb.specs.Programs.Shell.{HasRun}
-use Rattle.rusty_leveldb.specs.Programs.Story.{IsRunStory}
+use Rattle.rusty_leveldb.specs.Engines.Witness.{stored}
+use Rattle.rusty_leveldb.specs.Programs.Story.{SaysRun}
 
 -- The arguments name a folder, and what is done there: a single one is the folder, after
 -- `--read-only` its store is read alone, and after `--repair` it is repaired.
@@ -211,7 +212,8 @@ module _ {E F S : Type 0} {sink : S → Type 0} (env : Ghosts E F) (log : Option
     abbrev pub HasPlayed : Way → List ℕ → List Command → E → List Reply → Result (Unit {0}) Status
         → E → Type 0
     HasPlayed one folder commands from given ended to =
-        OnWhole one (IsRunStory env bytewise commands from given ended to)
+        OnWhole one
+        (SaysRun env stored folder ldb_opening.format commands from given ended to)
         × HasRunBy env one folder ldb_opening commands from given ended to
         × OnWhole one (RunsByDefault (ldb_boxes S sink) log env folder commands from given ended to)
 

@@ -1,20 +1,15 @@
 -- Runs and lives as a story of the headline: commands are calls, replies say what they returned,
 -- and a crash is where it comes. Only what follows has to be known beside the headline.
-use Rattle.std.specs.Prelude.{◌≡◌, ◌≤◌, ◌<◌, ◌⊎◌, ℕ, false, All, Contains, List, [], ◌∷◌, ◌++◌, length, map, slice_get, Option, Some, None, IfSome, Result, Ok, Err, IsErrAnd, IsTrue}
+use Rattle.std.specs.Prelude.{◌≡◌, ◌≤◌, ◌<◌, ◌+◌, ◌⊎◌, ℕ, false, All, List, [], ◌∷◌, ◌++◌, length, map, slice_get, Option, Some, None, IfSome, Result, Ok, Err, IsTrue}
 use Rattle.std.specs.declared.cmp.Ordering.{Ordering}
-use Rattle.leveldb_base.specs.declared.cmp.Cmp.{Ghosts as CmpGhosts}
 use Rattle.leveldb_base.specs.declared.error.Status.{Status}
-use Rattle.leveldb_base.specs.declared.error.StatusCode.TheVariants.{InvalidArgument, IOError, OutOfMemory}
-use Rattle.leveldb_env.specs.Compressor.{Coding, Codings}
-use Rattle.leveldb_env.specs.Env.{Disk}
+use Rattle.leveldb_base.specs.declared.error.StatusCode.TheVariants.{OutOfMemory}
+use Rattle.leveldb_env.specs.Env.{Disk, Files, FilesCrashTo, Observed}
 use Rattle.leveldb_env.specs.Options.{Boxed, OptionsOf}
-use Rattle.leveldb_env.specs.declared.compressor.CompressorList.{CompressorList}
+use Rattle.leveldb_env.specs.Picks.{picked, tails_of}
 use Rattle.leveldb_env.specs.declared.env.Env.{Ghosts}
-use Rattle.leveldb_env.specs.declared.filter.FilterPolicy.{Ghosts as FilterGhosts}
-use Rattle.leveldb_iter.specs.declared.moves.Move.{Move}
-use Rattle.leveldb_iter.specs.declared.moves.Move.TheVariants.{First, Next, Prev, Seek}
-use Rattle.leveldb_iter.specs.declared.moves.Step.{Step}
-use Rattle.leveldb_iter.specs.declared.moves.Step.TheVariants.{At, Invalid, Refused}
+use Rattle.leveldb_env.specs.declared.mem_env.picks.Pick.{Pick}
+use Rattle.leveldb_files.specs.Stores.Format.{Agrees, Format, Meaning}
 use Rattle.rusty_leveldb.specs.declared.shell.commands.Command.{Command}
 use Rattle.rusty_leveldb.specs.declared.shell.commands.Command.TheVariants as command
 use Rattle.rusty_leveldb.specs.declared.shell.commands.Item.{Item}
@@ -23,8 +18,8 @@ use Rattle.rusty_leveldb.specs.declared.shell.commands.Reply.{Reply}
 use Rattle.rusty_leveldb.specs.declared.shell.commands.Reply.TheVariants as reply
 use Rattle.rusty_leveldb.specs.declared.shell.crash_runs.Report.{Report}
 use Rattle.rusty_leveldb.specs.Engines.Boxes.{LifeOf}
-use Rattle.rusty_leveldb.specs.Headline.{KeyChange, Batch, Pair, UserStore, fresh_store, is_closed, is_broken, WalkMove, seek_to_first, advance, prev, seek, Call, open_store, abandon, write, get, walk, get_snapshot, release_snapshot, compact_range, flush, close, Why, CallOutcome, done, found, walked, snapshot, failed, barred, StoryEvent, returned, crash, IsStory}
-use Rattle.rusty_leveldb.specs.Machines.Shown.{HasCode}
+use Rattle.rusty_leveldb.specs.Headline.{KeyChange, Batch, Pair, UserStore, fresh_store, is_closed, Call, open_store, abandon, write, get, walk, get_snapshot, release_snapshot, compact_range, flush, close, Why, CallOutcome, done, found, walked, snapshot, StoryEvent, returned, crash, IsStory}
+use Rattle.rusty_leveldb.specs.Says.{AreResultsFor, IsLeft, IsRefusedWith, Place, Showing, move_for}
 
 -- ---- a command is a call
 
@@ -32,13 +27,6 @@ use Rattle.rusty_leveldb.specs.Machines.Shown.{HasCode}
 abbrev pub change_for : Item → KeyChange
 change_for (item.Put key value) = record { key = key.items; value = Some value.items }
 change_for (item.Delete key) = record { key = key.items; value = None }
-
--- the move of a walk
-abbrev pub move_for : Move → WalkMove
-move_for First = seek_to_first
-move_for Next = advance
-move_for Prev = prev
-move_for (Seek key) = seek key.items
 
 -- Of snapshots that were given out with these numbers, the one in this place, counted from 0, has
 -- this number; where none was given out in that place, any number will do.
@@ -67,26 +55,6 @@ IsCallFor given command.Flush call = call ≡ flush
 IsCallFor given command.Close call = call ≡ close
 
 -- ---- a reply says what it returned
-
--- what a refusal says: the mode bars the call, or it failed
-abbrev pub IsRefusedWith : Status → CallOutcome → Type 0
-IsRefusedWith status (barred is_closed) = status.code ≡ InvalidArgument
-IsRefusedWith status (barred is_broken) = status.code ≡ IOError
-IsRefusedWith status (failed why) = HasCode why status.code
-IsRefusedWith status outcome = ⊥
-
--- where a move of a walk led
-abbrev pub IsResultFor : Step → Result (Option Pair) Why → Type 0
-IsResultFor (At key value) result = result ≡ Ok (Some (key.items, value.items))
-IsResultFor Invalid result = result ≡ Ok None
-IsResultFor (Refused status) result = IsErrAnd result (λ why. HasCode why status.code)
-
--- and each in turn
-abbrev pub AreResultsFor : List Step → List (Result (Option Pair) Why) → Type 0
-AreResultsFor [] results = results ≡ []
-AreResultsFor (step ∷ steps) (result ∷ results) =
-    IsResultFor step result × AreResultsFor steps results
-AreResultsFor steps [] = ⊥
 
 -- what a reply says; of a snapshot it says how many were given out before
 abbrev pub IsReplyFor : List ℕ → Reply → CallOutcome → Type 0
@@ -135,19 +103,59 @@ IsRunOf (Err status) commands replies events =
     ⊎ IsUnopened replies status events
     ⊎ ((replies ≡ []) × (events ≡ []) × (status.code ≡ OutOfMemory))
 
--- nothing is there
-pub record IsBare (disk : Disk) : Type 0 where
-  pub files : (name : List ℕ) → disk.files name ≡ None
-  pub locks : (name : List ℕ) → disk.locked name ≡ false
+-- ---- what a story leads to
 
--- From an environment on in which nothing is, a run with these replies that ended so is a story of
--- the headline, in this order of keys; where nothing came about, nothing changed.
-abbrev pub IsRunStory : {E F : Type 0} → Ghosts E F → (List ℕ → List ℕ → Ordering) → List Command
-    → E → List Reply → Result (Unit {0}) Status → E → Type 0
-IsRunStory env order commands from replies ended to = IsTrue env.models_disk
-    → IsBare (env.observed from).disk
-    → (events : List StoryEvent) × (last : UserStore) × IsRunOf ended commands replies events
-    × IsStory order (fresh_store [] 0 is_closed) events last × (events ≡ [] → to ≡ from)
+module _ {M : Type 0} (showing : Showing M) (place : Place)
+    (order : List ℕ → List ℕ → Ordering) where
+  -- events are a story from this store to one that the disk holds
+  abbrev pub LeadsTo : UserStore → List StoryEvent → Disk → Type 0
+  LeadsTo store events disk =
+      (last : UserStore) × IsStory order store events last × showing.holds place disk last
+
+-- a crash at this moment, which has come, left the disk of files that stood then
+pub record IsLeftAt {M : Type 0} (showing : Showing M) (name : List ℕ) (now : Observed) (moment : ℕ)
+    (left : Disk) : Type 0 where
+  pub come : moment ≤ now.moment
+  pub files : Files
+  pub stood : now.at_moment moment files
+  pub is_left : IsLeft showing name files left
+
+-- a crash before these events cut short the write that was next, or none
+abbrev pub IsCutShort : List StoryEvent → Option Batch → Type 0
+IsCutShort (returned (write batch sync) outcome ∷ events) cut = (cut ≡ None) ⊎ (cut ≡ Some batch)
+IsCutShort events cut = cut ≡ None
+
+-- of events the first ones come about, and then a crash
+abbrev pub AreCutShort : List StoryEvent → List StoryEvent → Type 0
+AreCutShort events told = (before after : List StoryEvent) × (cut : Option Batch)
+    × (events ≡ before ++ after) × IsCutShort after cut × (told ≡ before ++ crash cut ∷ [])
+
+module _ {E F M : Type 0} (env : Ghosts E F) (showing : Showing M) where
+  -- A run of commands from a store that the disk held. What its replies say is a story of that
+  -- store, and the disk holds then what it leads to; where nothing came about, nothing changed.
+  -- Wherever a crash comes in the run, the first events of such a story come about and the crash,
+  -- and the disk that is left holds what they lead to.
+  pub record IsRunStory (place : Place) (order : List ℕ → List ℕ → Ordering) (store : UserStore)
+      (commands : List Command) (from : E) (replies : List Reply)
+      (ended : Result (Unit {0}) Status) (to : E) : Type 0 where
+    pub events : List StoryEvent
+    pub are_events : IsRunOf ended commands replies events
+    pub leads : LeadsTo showing place order store events (env.observed to).disk
+    pub nothing : events ≡ [] → to ≡ from
+    pub crashes : (moment : ℕ) (left : Disk) → (env.observed from).moment ≤ moment
+        → IsLeftAt showing place.name (env.observed to) moment left
+        → (all told : List StoryEvent) × IsRunOf ended commands replies all
+        × AreCutShort all told × LeadsTo showing place order store told left
+
+  -- A run over the store of this name with options of this format: from each store that the disk
+  -- held, if the options say of names and ids what they mean.
+  abbrev pub SaysRun : List ℕ → Format → List Command → E → List Reply
+      → Result (Unit {0}) Status → E → Type 0
+  SaysRun name format commands from replies ended to = IsTrue env.models_disk
+      → (meaning : Meaning) → Agrees format meaning → (store : UserStore)
+      → showing.holds (record { name = name; meaning = meaning }) (env.observed from).disk store
+      → IsRunStory (record { name = name; meaning = meaning }) format.order store commands from
+      replies ended to
 
 -- ---- lives
 
@@ -163,11 +171,6 @@ AreEventsOfLife (Err status) commands replies events = IsUnopened replies status
 abbrev pub AreMomentsOf : Result (Unit {0}) Status → List ℕ → List ℕ → Type 0
 AreMomentsOf (Ok opened) given moments = (first last : ℕ) × (moments ≡ first ∷ (given ++ last ∷ []))
 AreMomentsOf (Err status) given moments = (first : ℕ) × (moments ≡ first ∷ [])
-
--- a crash before these events cut short the write that was next, or none
-abbrev pub IsCutShort : List StoryEvent → Option Batch → Type 0
-IsCutShort (returned (write batch sync) outcome ∷ events) cut = (cut ≡ None) ⊎ (cut ≡ Some batch)
-IsCutShort events cut = cut ≡ None
 
 -- of events, each with its moment, those come about that had come at the moment of a crash, and
 -- then the crash
@@ -197,38 +200,67 @@ pub record IsLifeStory (commands : List Command) (moment : Option ℕ) (report :
       (map (λ one. one.0) timed)
   pub events_are : AreEventsUntil moment timed events
 
--- and in lives, one after another
-abbrev pub AreLifeStories : {C FP : Type 0} {B : Boxed} → List (LifeOf C FP B) → List Report
-    → List StoryEvent → Type 0
-AreLifeStories [] [] events = events ≡ []
-AreLifeStories (life ∷ lives) (report ∷ reports) events = (front rest : List StoryEvent)
-    × (events ≡ front ++ rest) × IsLifeStory life.commands.items life.moment report front
-    × AreLifeStories lives reports rest
-AreLifeStories lives reports events = ⊥
+module _ {E F M : Type 0} (env : Ghosts E F) (showing : Showing M) where
+  -- A life from a store that the disk held. What its report says is a story of that store, and the
+  -- disk holds then what it leads to. Wherever a crash comes in the life, so is what had come about
+  -- by its moment, and the crash, and the disk that is left holds what that leads to.
+  pub record IsLifeTold (place : Place) (order : List ℕ → List ℕ → Ordering) (store : UserStore)
+      (commands : List Command) (from : E) (report : Report) (to : E) : Type 0 where
+    pub leads : (events : List StoryEvent) × IsLifeStory commands None report events
+        × LeadsTo showing place order store events (env.observed to).disk
+    pub crashes : (moment : ℕ) (left : Disk)
+        → IsLeftAt showing place.name (env.observed to) ((env.observed from).moment + moment) left
+        → (events : List StoryEvent) × IsLifeStory commands (Some moment) report events
+        × LeadsTo showing place order store events left
 
-module _ {C FP : Type 0} {B : Boxed} (cmp : CmpGhosts C) (filters : FilterGhosts FP)
-    (codings : CompressorList B.compressors B.compressor → Codings) where
-  -- two options mean the same: filters by a policy's name, compressors by an id
-  pub record MeanTheSame (one two : OptionsOf C FP B) : Type 0 where
-    pub filters_are : filters.name one.filter_policy ≡ filters.name two.filter_policy
-        → filters.matches one.filter_policy ≡ filters.matches two.filter_policy
-    pub compressors_are : (id : ℕ) (a b : Coding) → codings one.compressor_list id ≡ Some a
-        → codings two.compressor_list id ≡ Some b → a ≡ b
+  -- A life of the store of this name with options of this format: from each store that the disk
+  -- held, if the options say of names and ids what they mean.
+  abbrev pub SaysLived : List ℕ → Format → List Command → E → Report → E → Type 0
+  SaysLived name format commands from report to = (meaning : Meaning) → Agrees format meaning
+      → (store : UserStore)
+      → showing.holds (record { name = name; meaning = meaning }) (env.observed from).disk store
+      → IsLifeTold (record { name = name; meaning = meaning }) format.order store commands from
+      report to
 
-  -- lives of one store: keys have this order, and names and ids mean one thing
-  pub record AreOfOneStore (order : List ℕ → List ℕ → Ordering) (lives : List (LifeOf C FP B))
+  -- A crash at this moment from a life's start left the next device: of the files that stood then
+  -- each with the bytes that a crash keeps and those that were picked, and no lock.
+  pub record IsCutOff (from : E) (moment : ℕ) (pick : Pick) (to : E) (files : Files) (next : E)
       : Type 0 where
-    pub ordered : All (λ life. cmp.cmp life.options.cmp ≡ order) lives
-    pub same : (one two : LifeOf C FP B) → Contains lives one → Contains lives two
-        → MeanTheSame one.options two.options
+    pub come : (env.observed from).moment + moment ≤ (env.observed to).moment
+    pub stood : (env.observed to).at_moment ((env.observed from).moment + moment) files
+    pub crashes : FilesCrashTo files (env.observed next).disk.files
+    pub picked_are : (env.observed next).disk.files ≡ picked (tails_of pick.tails.items) files
+    pub free : (path : List ℕ) → (env.observed next).disk.locked path ≡ false
 
-  -- what is reported of lives of one store is a story of the headline, from a fresh store of no
-  -- batch on
-  abbrev pub AreOneStory : List (LifeOf C FP B) → List Report → Type 0
-  AreOneStory lives reports = (order : List ℕ → List ℕ → Ordering) → AreOfOneStore order lives
-      → (events : List StoryEvent) × (last : UserStore) × AreLifeStories lives reports events
-      × IsStory order (fresh_store [] 0 is_closed) events last
+  -- The next life begins where this one ended, or on what its crash left. If that crash wasn't
+  -- honest nothing more is said.
+  abbrev pub GoesOn : List ℕ → Option ℕ → Pick → E → E → (E → Type 0) → Type 0
+  GoesOn name None pick from to Next = Next to
+  GoesOn name (Some moment) pick from to Next = (files : Files) × (next : E)
+      × IsCutOff from moment pick to files next
+      × (showing.is_honest name files (env.observed next).disk.files → Next next)
 
--- of each file each crash leaves the bytes that were synced, and no others
-abbrev pub HaveNoTails : {C FP : Type 0} {B : Boxed} → List (LifeOf C FP B) → Type 0
-HaveNoTails lives = All (λ life. life.pick.tails.items ≡ []) lives
+  module _ {C FP : Type 0} {B : Boxed} (place : Place) (order : List ℕ → List ℕ → Ordering) where
+    -- Lives one after another, from a device on whose disk holds this store. Up to its crash each
+    -- is a story from there to the store that the next device's disk holds.
+    abbrev pub AreStories : E → UserStore → List (LifeOf C FP B) → List Report → Type 0
+    AreStories device store [] [] = showing.holds place (env.observed device).disk store
+    AreStories device store (life ∷ lives) (report ∷ reports) =
+        showing.holds place (env.observed device).disk store × (to : E)
+        × IsLifeTold place order store life.commands.items device report to
+        × GoesOn place.name life.moment life.pick device to (λ next. (events : List StoryEvent)
+        × (last : UserStore) × IsLifeStory life.commands.items life.moment report events
+        × IsStory order store events last × AreStories next last lives reports)
+    AreStories device store lives reports = ⊥
+
+  -- Lives of the store of this name, if their options say of names and ids what they mean and have
+  -- one order of keys: they begin on a device whose disk holds a fresh store of no batch, and are a
+  -- story from there. `formats` says of options which format they have.
+  abbrev pub SaysLives : {C FP : Type 0} {B : Boxed} → (OptionsOf C FP B → Format) → List ℕ
+      → List (LifeOf C FP B) → List Report → Type 0
+  SaysLives formats name lives reports = (meaning : Meaning)
+      (order : List ℕ → List ℕ → Ordering)
+      → All (λ life. Agrees (formats life.options) meaning) lives
+      → All (λ life. (formats life.options).order ≡ order) lives
+      → (device : E) × AreStories (record { name = name; meaning = meaning }) order device
+      (fresh_store [] 0 is_closed) lives reports

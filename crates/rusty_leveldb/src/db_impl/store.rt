@@ -6,9 +6,9 @@ ghost use Rattle.leveldb_mem.specs.WriteBatch.{item_of};
 ghost use Rattle.rusty_leveldb.specs.Engines.Serves.{snapshot_of};
 ghost use Rattle.rusty_leveldb.specs.Engines.Witness.{iterating_in, shown_by};
 ghost use Rattle.rusty_leveldb.specs.Headline as headline;
-ghost use Rattle.rusty_leveldb.specs.Machines.Shown.{changes_of, snapshot_number, walk_move_of};
+ghost use Rattle.rusty_leveldb.specs.Machines.Shown.{changes_of};
 ghost use Rattle.rusty_leveldb.specs.Says.{DoneOr, FoundOr, Says, SaysAbandoned, SaysOpened};
-ghost use Rattle.rusty_leveldb.specs.Says.{SaysIterated, SaysReleased, SnapshotOr, WalkedOr};
+ghost use Rattle.rusty_leveldb.specs.Says.{SaysIterated, SaysReleased, SnapshotOr, WalkedOr, move_for};
 ghost use Rattle.rusty_leveldb.specs.Engines.Engine.{opening_of};
 ghost use Rattle.leveldb_store.specs.Tables.BuildTable.{choices_of};
 ghost use Rattle.leveldb_files.specs.Stores.Format.{format_of};
@@ -16,7 +16,6 @@ ghost use Rattle.rusty_leveldb.specs.Engines.Calls.{EngineAbandons, EngineCloses
 ghost use Rattle.rusty_leveldb.specs.Engines.Calls.{EngineHolds, EngineOpens, EngineReleases, EngineWalks};
 ghost use Rattle.rusty_leveldb.specs.Engines.Calls.{EngineWrites, result_map};
 ghost use Rattle.rusty_leveldb.specs.Walks.Iterator.{EngineIterates};
-ghost use Rattle.rusty_leveldb.specs.Walks.Walks.{move_of};
 
 use super::engine::Engine;
 use crate::db_iter::{DBIterator, StoreTables};
@@ -351,8 +350,8 @@ impl<'e, E: Env, C: UserCmp + Copy, FP: FilterPolicy + Copy> Store<'e, E, Engine
         ensures says { let codings = ⟦<CompressorList as Compressors>⟧.codings in
             (given : List Step) × (steps.new.items ≡ steps.old.items ++ given)
             × Says E.Env (shown_by ⟦<InternalKeyCmp<C> as Cmp>⟧ E.Env C.Cmp FP.FilterPolicy codings)
-            self.old.state self.old.env.now (headline.walk
-            (snapshot_number (option_map snapshot_of at)) (map walk_move_of (map move_of moves.now)))
+            self.old.state self.old.env.now
+            (headline.walk (option_map (λ one. one.number) at) (map move_for moves.now))
             (WalkedOr given result) self.new.state self.new.env.now }
         ensures same_reference { self.new.env.ghost_name ≡ self.old.env.ghost_name }
         ensures walks { let choices = choices_of C.Cmp FP.FilterPolicy

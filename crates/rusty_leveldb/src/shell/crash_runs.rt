@@ -7,7 +7,9 @@ ghost use Rattle.rusty_leveldb.specs.Engines.Engine.{opening_of};
 ghost use Rattle.leveldb_store.specs.Tables.BuildTable.{choices_of};
 ghost use Rattle.rusty_leveldb.specs.Programs.Lives.{IsAlwaysLife, IsCrash, ReportsLives};
 ghost use Rattle.rusty_leveldb.specs.Programs.RunCalls.{LivesByCalls};
-ghost use Rattle.rusty_leveldb.specs.Programs.Story.{AreOneStory, HaveNoTails};
+ghost use Rattle.rusty_leveldb.specs.Programs.Story.{SaysLived, SaysLives};
+ghost use Rattle.rusty_leveldb.specs.Engines.Witness.{stored};
+ghost use Rattle.leveldb_files.specs.Stores.Format.{format_of};
 
 use super::commands::{Command, Reply};
 use super::runs::answer;
@@ -52,6 +54,9 @@ pub fn live<C: UserCmp + Copy, FP: FilterPolicy + Copy>(
     options: Options<C, FP>,
     commands: &[Command],
 ) -> Result<Report>
+    ensures story { IfOk result (λ report. SaysLived ⟦<RecordEnv as Env>⟧ stored name.now
+        (format_of C.Cmp FP.FilterPolicy ⟦<CompressorList as Compressors>⟧.codings options)
+        commands.now env.old report env.new) }
     ensures life { IfOk result (λ report. IsAlwaysLife ⟦<RecordEnv as Env>⟧ name.now env.old
         (opening_of C.Cmp FP.FilterPolicy ⟦<CompressorList as Compressors>⟧.codings options)
         commands.now report env.new) }
@@ -97,8 +102,9 @@ pub fn lives<C: UserCmp + Copy, FP: FilterPolicy + Copy>(
     name: &str,
     lives: Vec<Life<C, FP>>,
 ) -> Result<Vec<Report>>
-    ensures story { IfOk result (λ reports. HaveNoTails lives.items → AreOneStory C.Cmp
-        FP.FilterPolicy ⟦<CompressorList as Compressors>⟧.codings lives.items reports.items) }
+    ensures story { IfOk result (λ reports. SaysLives ⟦<RecordEnv as Env>⟧ stored
+        (format_of C.Cmp FP.FilterPolicy ⟦<CompressorList as Compressors>⟧.codings) name.now
+        lives.items reports.items) }
     ensures reports { ReportsLives ⟦<RecordEnv as Env>⟧ C.Cmp FP.FilterPolicy
         ⟦<CompressorList as Compressors>⟧.codings ⟦<InternalKeyCmp<C> as Cmp>⟧
         ⟦<InternalFilterPolicy<FP> as FilterPolicy>⟧ name.now lives.items result }

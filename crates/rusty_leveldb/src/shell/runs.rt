@@ -12,7 +12,9 @@ ghost use Rattle.leveldb_store.specs.Keeping.SoundCall.{TimeGoesOn};
 ghost use Rattle.rusty_leveldb.specs.Programs.RunCalls.{CallsEngine, RunsByCalls};
 ghost use Rattle.rusty_leveldb.specs.Engines.Serves.{done_or, found_or};
 ghost use Rattle.rusty_leveldb.specs.Machines.State as machine;
-ghost use Rattle.rusty_leveldb.specs.Programs.Story.{IsRunStory};
+ghost use Rattle.rusty_leveldb.specs.Programs.Story.{SaysRun};
+ghost use Rattle.rusty_leveldb.specs.Engines.Witness.{stored};
+ghost use Rattle.leveldb_files.specs.Stores.Format.{format_of};
 ghost use Rattle.rusty_leveldb.specs.Programs.Shell.{HasRun, IsReplyOf, change_of};
 
 use super::commands::{Command, Item, Reply};
@@ -42,8 +44,9 @@ pub fn run<E: Env, C: UserCmp + Copy, FP: FilterPolicy + Copy>(
     commands: &[Command],
     replies: &mut Vec<Reply>,
 ) -> Result<()>
-    ensures story { IsRunStory E.Env (C.Cmp.cmp opt.cmp) commands.now env.old
-        (drop (length replies.old.items) replies.new.items) result env.new }
+    ensures story { SaysRun E.Env stored name.now
+        (format_of C.Cmp FP.FilterPolicy ⟦<CompressorList as Compressors>⟧.codings opt) commands.now
+        env.old (drop (length replies.old.items) replies.new.items) result env.new }
     ensures runs { HasRun E.Env name.now (opening_of C.Cmp FP.FilterPolicy
         ⟦<CompressorList as Compressors>⟧.codings opt) commands.now env.old
         (drop (length replies.old.items) replies.new.items) result env.new }

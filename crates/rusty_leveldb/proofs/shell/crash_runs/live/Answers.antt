@@ -15,6 +15,7 @@ use Rattle.leveldb_files.specs.Stores.Format.{format_of}
 use Rattle.rusty_leveldb.proofs.Programs.Playing.{commands_up_to}
 use Rattle.rusty_leveldb.proofs.Programs.TurnLemmas.{calls_more, calls_step, calls_time}
 use Rattle.rusty_leveldb.proofs.Programs.Living.{Given, LivesSoFar, given_more, lives_first, lives_more, lives_end, not_lived}
+use Rattle.rusty_leveldb.proofs.Programs.Storied.{says_lived}
 use Rattle.rusty_leveldb.proofs.shell.crash_runs.live.Goals as goal
 
 pub returns-in-Err-clause-life : goal.returns-in-Err-clause-life
@@ -108,3 +109,13 @@ returns-clause-life g c =
     let step = c.abandon.ensures.step in
     lives_end g.row.C.Denot g.row.FP.Denot _ ghosts (format_of g.C.Cmp g.FP.FilterPolicy (compressors g.dyn-2).codings) (record_only_now, record_counts_now) refl c.args.name.now c.args.env.now c.loop-command.env c.abandon.new.env (opening_of g.C.Cmp g.FP.FilterPolicy (compressors g.dyn-2).codings c.args.options)
     c.args.commands.now (map snapshot_of c.loop-command.taken.items) so_far.2 c.loop-command.engine (done_or c.abandon.result) _ refl so_far.3 (rw all at so_far.4) step
+
+pub returns-in-Err-clause-story : goal.returns-in-Err-clause-story
+returns-in-Err-clause-story g c =
+    says_lived ghosts c.args.name.now _ c.args.commands.now c.args.env.now _ _
+    (returns-in-Err-clause-life g c)
+
+pub returns-clause-story : goal.returns-clause-story
+returns-clause-story g c =
+    says_lived ghosts c.args.name.now _ c.args.commands.now c.args.env.now _ _
+    (returns-clause-life g c)

@@ -13,7 +13,7 @@ use Rattle.leveldb_store.specs.Tables.BuildTable.{choices_of}
 use Rattle.rusty_leveldb.specs.Programs.RunCalls.{LivesByCalls}
 use Rattle.rusty_leveldb.specs.Programs.Lives.{IsCrash, IsAlwaysLife, IsLifeOn}
 use Rattle.rusty_leveldb.specs.Engines.Engine.{opening_of}
-use Rattle.rusty_leveldb.proofs.Programs.Lives.{next_crash, next_same, reports_more, all_reported, story_reported, fails_for}
+use Rattle.rusty_leveldb.proofs.Programs.Lives.{next_crash, next_same, reports_more, all_reported, says_lives, fails_for}
 use Rattle.rusty_leveldb.proofs.shell.crash_runs.lives.Goals as goal
 use Rattle.rusty_leveldb.proofs.shell.crash_runs.lives.Goals.{in-Some-moment+in_ok-env, in_default}
 
@@ -60,7 +60,7 @@ returns-clause-story g c =
     let so_far = c.loop-life.invariant in
     let none : c.loop-life.life-iterator.rest.items ≡ [] = nil_from_length c.loop-life.life-iterator.rest.items (omega (arith, c.in-None.ensures.steps.0, c.loop-life.life-iterator.rest.ok)) in
     let all : c.loop-life.yielded ≡ c.args.lives.items = sym (append-nil c.loop-life.yielded) ∙ ap (λ rest. c.loop-life.yielded ++ rest) (sym none) ∙ so_far.1 in
-    story_reported g.C.Cmp g.FP.FilterPolicy (compressors g.dyn-2).codings (key_order g.row.C g.C.UserCmp g.C.UserCmp-dict g.C.Cmp g.C.Cmp-dict) (key_policy g.row.FP g.FP.FilterPolicy g.FP.FilterPolicy-dict) c.args.name.now c.args.lives.items c.loop-life.reports.items (c.loop-life.env, rw all at so_far.2)
+    says_lives g.C.Cmp g.FP.FilterPolicy (compressors g.dyn-2).codings (key_order g.row.C g.C.UserCmp g.C.UserCmp-dict g.C.Cmp g.C.Cmp-dict) (key_policy g.row.FP g.FP.FilterPolicy g.FP.FilterPolicy-dict) c.args.name.now c.args.lives.items c.loop-life.reports.items (c.loop-life.env, rw all at so_far.2)
 
 pub returns-clause-reports : goal.returns-clause-reports
 returns-clause-reports g c =

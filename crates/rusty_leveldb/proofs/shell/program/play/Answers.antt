@@ -12,7 +12,7 @@ returns-clause-played g c =
     c.run_by-played.new.replies.items c.deref.result.now c.in_ok-played.field-0
     c.print-printed.result c.new-replies.ensures.items c.deref.ensures.value
     (has_played _ (⊎_elim (λ never. never) (λ never. never)) g.E.Env c.args.log _ _ _
-    c.args.folder.now c.args.commands.now c.args.env.now c.run_by-played.new.env _ _ c.args.way
+    c.args.folder.now c.args.commands.now c.args.env.now c.run_by-played.new.env _ _ (g.met.E.Env.only_now, g.met.E.Env.counts_now) c.args.way
     c.in_ok-played.ensures.runs c.in_ok-played.ensures.calls (record {
       log_is = refl;
       defaults = still_default defaults.choices;
@@ -30,7 +30,7 @@ returns-clause-run g c =
       c.run_by-played.result,
       has_played _ (⊎_elim (λ never. never) (λ never. never)) g.E.Env c.args.log _ _ _
           c.args.folder.now c.args.commands.now c.args.env.now c.run_by-played.new.env _ _
-          c.args.way c.run_by-played.ensures.runs c.run_by-played.ensures.calls (record {
+          (g.met.E.Env.only_now, g.met.E.Env.counts_now) c.args.way c.run_by-played.ensures.runs c.run_by-played.ensures.calls (record {
             log_is = refl;
             defaults = still_default defaults.choices;
             tables = λ now. chooses_so defaults.compressors defaults.filters
@@ -48,7 +48,7 @@ returns-in_err-played-clause-run g c =
       c.run_by-played.result,
       has_played _ (⊎_elim (λ never. never) (λ never. never)) g.E.Env c.args.log _ _ _
           c.args.folder.now c.args.commands.now c.args.env.now c.run_by-played.new.env _ _
-          c.args.way c.run_by-played.ensures.runs c.run_by-played.ensures.calls (record {
+          (g.met.E.Env.only_now, g.met.E.Env.counts_now) c.args.way c.run_by-played.ensures.runs c.run_by-played.ensures.calls (record {
             log_is = refl;
             defaults = still_default defaults.choices;
             tables = λ now. chooses_so defaults.compressors defaults.filters

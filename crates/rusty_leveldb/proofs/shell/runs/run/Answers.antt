@@ -99,15 +99,15 @@ returns-clause-runs g c =
 
 pub returns-in_err-reserve-clause-story : goal.returns-in_err-reserve-clause-story
 returns-in_err-reserve-clause-story g c =
-    run_story g.E.Env c.args.name.now _ c.args.commands.now c.args.env.now _ _ _ (returns-in_err-reserve-clause-runs g c)
+    run_story g.E.Env (g.met.E.Env.only_now, g.met.E.Env.counts_now) c.args.name.now _ c.args.commands.now c.args.env.now _ _ _ (returns-in_err-reserve-clause-runs g c)
 
 pub returns-in_err-engine-clause-story : goal.returns-in_err-engine-clause-story
 returns-in_err-engine-clause-story g c =
-    run_story g.E.Env c.args.name.now _ c.args.commands.now c.args.env.now _ _ _ (returns-in_err-engine-clause-runs g c)
+    run_story g.E.Env (g.met.E.Env.only_now, g.met.E.Env.counts_now) c.args.name.now _ c.args.commands.now c.args.env.now _ _ _ (returns-in_err-engine-clause-runs g c)
 
 pub returns-clause-story : goal.returns-clause-story
 returns-clause-story g c =
-    run_story g.E.Env c.args.name.now _ c.args.commands.now c.args.env.now _ _ _ (returns-clause-runs g c)
+    run_story g.E.Env (g.met.E.Env.only_now, g.met.E.Env.counts_now) c.args.name.now _ c.args.commands.now c.args.env.now _ _ _ (returns-clause-runs g c)
 
 pub returns-in_err-reserve-clause-calls : goal.returns-in_err-reserve-clause-calls
 returns-in_err-reserve-clause-calls g c =
