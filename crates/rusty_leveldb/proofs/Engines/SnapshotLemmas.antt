@@ -273,6 +273,7 @@ module _ {E C FP F P : Type 0} {B : Boxed} {keys : InternalOrder C} {key_filters
         sequence = gives.sequence_is ∙ last;
         fresh = λ there. let low = has.given one.number there in let next = gives.number in
             omega (arith, low, next);
+        above = let next = gives.number in omega (arith, next);
         state = refl;
       },
     )

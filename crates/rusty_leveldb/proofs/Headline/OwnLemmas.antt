@@ -1,10 +1,10 @@
 -- From its opening on, a run of the machine tells each snapshot by its own number, also where its
 -- release fails.
-use Rattle.std.proofs.Common.{◌≡◌, ◌⊎◌, ⊎_elim, inl, inr, ℕ, Bool, true, false, List, [], ◌∷◌, ◌++◌, refl, sym, ◌∙◌, ap, subst, Option, Some, None, All, Contains, append-nil}
+use Rattle.std.proofs.Common.{◌≡◌, ◌<◌, ◌⊎◌, ⊎_elim, inl, inr, ℕ, Bool, true, false, List, [], ◌∷◌, ◌++◌, refl, sym, ◌∙◌, ap, subst, arith, Option, Some, None, All, Contains, append-nil}
 use Rattle.std.specs.Prelude.{◌==◌}
 use Rattle.std.specs.declared.cmp.Ordering.{Ordering}
 use Rattle.std.proofs.lemmas.Bool.{eqb-true, eqb-false}
-use Rattle.std.proofs.lemmas.List.Elements.{All-head, All-tail, Contains-append_left, Contains-append_right, Contains-append_cases, Contains-push, Contains-push_cases}
+use Rattle.std.proofs.lemmas.List.Elements.{All-cons, All-head, All-nil, All-tail, Contains-append_left, Contains-append_right, Contains-append_cases, Contains-push, Contains-push_cases}
 use Rattle.leveldb_base.specs.History.{Entry, History}
 use Rattle.leveldb_base.proofs.HistoryLemmas.{in_none, in_front, in_rest, in_cases}
 use Rattle.leveldb_files.specs.Stores.Format.{Meaning}
@@ -27,6 +27,7 @@ pub record Known (taken : List Snapshot) (state : State) : Type 0 where
   pub held : (one : Snapshot) → Contains state.held one → Contains taken one
   pub own : (one two : Snapshot) → Contains taken one → Contains taken two
       → one.number ≡ two.number → one ≡ two
+  pub above : (one : Snapshot) → Contains taken one → 0 < one.number
   pub given : (state.mode ≡ closed → ⊥) → (one : Snapshot) → Contains taken one
       → Contains state.given one.number
 
@@ -192,6 +193,7 @@ module _ (setting : Setting) (old new : State) where
     known_less less = record {
       held = λ one c. known.held one (less.held one c);
       own = known.own;
+      above = known.above;
       given = λ unclosed one c. let was = less.given unclosed in
           subst (λ g. Contains g one.number) (sym was.1) (known.given was.0 one c);
     }
@@ -206,6 +208,9 @@ module _ (setting : Setting) (old new : State) where
           (Contains-push_cases old.held one other c);
       own = λ a b c d. both a b (Contains-push_cases taken one a c)
           (Contains-push_cases taken one b d);
+      above = λ a c. ⊎_elim (λ (t : Contains taken a). known.above a t)
+          (λ (e : one ≡ a). subst (λ (s : Snapshot). 0 < s.number) e g.above)
+          (Contains-push_cases taken one a c);
       given = λ unclosed_then a c. ⊎_elim
           (λ (t : Contains taken a). Contains-append_left old.given (one.number ∷ []) a.number
           (known.given unclosed a t))
@@ -244,6 +249,7 @@ known_none : (state : State) → state.held ≡ [] → Known [] state
 known_none state e = record {
   held = λ one c. subst (λ h. Contains h one) e c;
   own = λ one two c d. absurd (in_none one c);
+  above = λ one c. absurd (in_none one c);
   given = λ unclosed one c. absurd (in_none one c);
 }
 
@@ -268,10 +274,10 @@ known_opened setting old new opening answer is step = by old.mode answer refl st
 
 -- ---- a release is told by its own number
 
--- a release of a snapshot that was given out is told so
+-- a release of a snapshot that was given out, or of none, is told so
 abbrev pub IsOwn : List Snapshot → Request → Call → Type 0
 IsOwn taken request call = (one : Snapshot) → request ≡ release_snapshot one
-    → Contains taken one → call ≡ headline.release_snapshot one.number
+    → Contains taken one ⊎ (one.number ≡ 0) → call ≡ headline.release_snapshot one.number
 
 -- whether a number is held
 pub number_held : (held : List (ℕ × ℕ)) (number : ℕ)
@@ -417,9 +423,16 @@ module _ (cmp : List ℕ → List ℕ → Ordering) (setting : Setting) (old new
             let s = held_back old.history store.batches old.held store.held one.number there.0
             shown.held there.1 in
             let same : one ≡ other = cc in
+            ⊎_elim
+            (λ (given : Contains taken other).
             let is_one : s.0 ≡ one = known.own s.0 one (known.held s.0 s.1)
-            (subst (Contains taken) (sym same) c) s.2 in
-            not_held old.mode one refusal refl step (subst (Contains old.held) is_one s.1));
+            (subst (Contains taken) (sym same) given) s.2 in
+            not_held old.mode one refusal refl step (subst (Contains old.held) is_one s.1))
+            (λ (zero_so : other.number ≡ 0).
+            let low = known.above s.0 (known.held s.0 s.1) in
+            let number : s.0.number ≡ 0 =
+            s.2 ∙ ap (λ (t : Snapshot). t.number) same ∙ zero_so in
+            omega (arith, low, number)) c);
       }
 
   own_row : (request : Request) (answer : Answer)
@@ -607,4 +620,30 @@ module _ (cmp : List ℕ → List ℕ → Ordering) where
         (none_told [] event.failures after next last row.next is_next row.shown
         (subst (λ es. RunsEvents meaning event.failures next es after last) none run.3)) in
         more_told [] [] setting old next last store event events known.1 row
-        (λ one e c. absurd (in_none one c)) (⊎_elim done_rest none_rest first.2)
+        (λ one e c. absurd (let never : open_store opening ≡ release_snapshot one =
+        sym first.0.1 ∙ e in cc)) (⊎_elim done_rest none_rest first.2)
+
+-- the snapshot that an answer gives out has a number above 0
+abbrev pub GivesAbove : Event → Type 0
+GivesAbove event = (one : Snapshot) → Contains (given_by event.answer) one → 0 < one.number
+
+gives_above : (setting : Setting) (old new : State) (request : Request) (answer : Answer)
+    → Step old.mode setting old request answer new
+    → (one : Snapshot) → Contains (given_by answer) one → 0 < one.number
+gives_above setting old new request (snapshot given) step one there =
+    ⊎_elim (λ (same : given ≡ one). subst (λ (s : Snapshot). 0 < s.number) same
+    (given_out setting old new old.mode request given step).1.above)
+    (λ (c : Contains [] one). absurd (in_none one c)) (in_cases given one [] there)
+gives_above setting old new request done step one there = absurd (in_none one there)
+gives_above setting old new request (found value) step one there = absurd (in_none one there)
+gives_above setting old new request (walked landings) step one there = absurd (in_none one there)
+gives_above setting old new request (refused refusal) step one there = absurd (in_none one there)
+
+-- so in a run
+pub run_above : (meaning : Meaning) (events : List Event) (before after : ℕ) (old last : State)
+    → RunsEvents meaning before old events after last → All GivesAbove events
+run_above meaning [] before after old last run = All-nil GivesAbove
+run_above meaning (event ∷ events) before after old last run =
+    All-cons GivesAbove event events
+    (gives_above (setting_of meaning before event) old run.1 event.request event.answer run.2)
+    (run_above meaning events event.failures after run.1 last run.3)

@@ -1,11 +1,12 @@
 -- A command that became a request is a call of the headline, and its reply says what that returned.
-use Rattle.std.proofs.Common.{◌≡◌, inl, inr, ℕ, zero, suc, List, [], ◌∷◌, ◌++◌, refl, sym, ◌∙◌, ap, subst, Contains, Option, Some, None}
-use Rattle.std.specs.Prelude.{map, slice_get, unwrap_or, IfSome, Result}
+use Rattle.std.proofs.Common.{◌≡◌, ◌<◌, ◌⊎◌, inl, inr, arith, ℕ, zero, suc, List, [], ◌∷◌, ◌++◌, refl, sym, ◌∙◌, ap, subst, Contains, Option, Some, None}
+use Rattle.std.specs.Prelude.{map, slice_get, unwrap_or, Result}
 use Rattle.std.specs.Option.{option_map}
 use Rattle.std.proofs.lemmas.List.{length-map, map-append}
 use Rattle.std.proofs.lemmas.Option.{slice_get-map}
 use Rattle.leveldb_base.specs.declared.error.Status.{Status}
 use Rattle.leveldb_base.specs.History as history
+use Rattle.leveldb_base.proofs.EntriesLemmas.{in_map}
 use Rattle.leveldb_base.proofs.HistoryLemmas.{in_front, in_rest}
 use Rattle.leveldb_iter.specs.declared.moves.Move.{Move}
 use Rattle.leveldb_iter.specs.declared.moves.Move.TheVariants.{First, Next, Prev, Seek}
@@ -23,7 +24,7 @@ use Rattle.rusty_leveldb.specs.Headline.{KeyChange, Call, CallOutcome, Why}
 use Rattle.rusty_leveldb.specs.Machines.State.{Snapshot, release_snapshot, Answer, done, found, walked, snapshot, refused}
 use Rattle.rusty_leveldb.specs.Machines.Shown.{changes_of, walk_move_of, IsCallOf, IsResultOf, AreResultsOf, IsOutcomeOf}
 use Rattle.rusty_leveldb.specs.Programs.Shell.{IsReplyOf, change_of, given_by, request_of, snapshot_named}
-use Rattle.rusty_leveldb.specs.Programs.Story.{change_for, IsCallFor, IsReplyFor, number_in}
+use Rattle.rusty_leveldb.specs.Programs.Story.{change_for, HasNumber, IsCallFor, IsReplyFor, number_in}
 use Rattle.rusty_leveldb.specs.Says.{move_for, IsRefusedWith, IsResultFor, AreResultsFor}
 use Rattle.rusty_leveldb.specs.Programs.Views.{no_snapshot}
 use Rattle.rusty_leveldb.specs.Walks.Walks.{move_of, landing_of}
@@ -59,18 +60,35 @@ same_moves (move ∷ moves) = λ i. same_move move i ∷ same_moves moves i
 
 -- ---- snapshots
 
-number_there : (there : Option Snapshot)
-    → IfSome (option_map (λ (one : Snapshot). one.number) there)
-    (λ number. number ≡ (unwrap_or there no_snapshot).number)
-number_there None = tt
-number_there (Some one) = refl
+-- each has a number above 0
+abbrev pub AreAbove : List Snapshot → Type 0
+AreAbove taken = (one : Snapshot) → Contains taken one → 0 < one.number
 
-named_number : (taken : List Snapshot) (place : ℕ) → IfSome (slice_get (numbers taken) place)
-    (λ number. number ≡ (snapshot_named taken place).number)
-named_number taken place =
-    subst (λ there. IfSome there (λ number. number ≡ (snapshot_named taken place).number))
-    (sym (slice_get-map (λ (one : Snapshot). one.number) taken place))
-    (number_there (slice_get taken place))
+-- so none has 0
+none_is_0 : (taken : List Snapshot) → AreAbove taken → Contains (numbers taken) 0 → ⊥
+none_is_0 taken above there =
+    let one = in_map (λ (one : Snapshot). one.number) taken 0 there in
+    let low = above one.0 one.1 in let is_0 = one.2 in omega (arith, low, is_0)
+
+number_in_place : (taken : List Snapshot) (place : ℕ) (there : Option Snapshot)
+    → slice_get taken place ≡ there
+    → slice_get (numbers taken) place ≡ option_map (λ (one : Snapshot). one.number) there
+number_in_place taken place there e = slice_get-map (λ (one : Snapshot). one.number) taken place
+    ∙ ap (option_map (λ (one : Snapshot). one.number)) e
+
+named_number : (taken : List Snapshot) (place : ℕ) → AreAbove taken
+    → HasNumber (numbers taken) place (snapshot_named taken place).number
+named_number taken place above = by (slice_get taken place) refl
+  where
+    by : (there : Option Snapshot) → slice_get taken place ≡ there
+        → HasNumber (numbers taken) place (snapshot_named taken place).number
+    by None e = inr (
+      number_in_place taken place None e,
+      λ c. none_is_0 taken above (subst (Contains (numbers taken))
+          (ap (λ (o : Option Snapshot). (unwrap_or o no_snapshot).number) e) c),
+    )
+    by (Some one) e = inl (number_in_place taken place (Some one) e
+        ∙ ap (λ (o : Option Snapshot). Some (unwrap_or o no_snapshot).number) (sym e))
 
 -- what is in a place of a list is in it
 got_in : {A : Type 0} (xs : List A) (k : ℕ) (x : A) → slice_get xs k ≡ Some x → Contains xs x
@@ -81,65 +99,47 @@ got_in (y ∷ xs) (suc k) x is = in_rest y x xs (got_in xs k x is)
 
 -- ---- a call
 
--- a release is told of some number
-release_number : (one : Snapshot) (answer : Answer) (call : Call)
-    → IsCallOf (release_snapshot one) answer call
-    → (number : ℕ) × (call ≡ headline.release_snapshot number)
-release_number one done call is = (one.number, is)
-release_number one (found value) call is = (one.number, is)
-release_number one (walked landings) call is = (one.number, is)
-release_number one (snapshot other) call is = (one.number, is)
-release_number one (refused refusal) call is = is
-
--- and of its own
-release_for : (taken : List Snapshot) (place : ℕ) (answer : Answer) (call : Call)
+-- a release is told of its own number
+release_for : (taken : List Snapshot) (place : ℕ) (answer : Answer) (call : Call) → AreAbove taken
     → IsCallOf (release_snapshot (snapshot_named taken place)) answer call
     → IsOwn taken (release_snapshot (snapshot_named taken place)) call
     → IsCallFor (numbers taken) (command.Release place) call
-release_for taken place answer call asked own = by (slice_get taken place) refl
+release_for taken place answer call above asked own = (
+  (snapshot_named taken place).number,
+  named_number taken place above,
+  own (snapshot_named taken place) refl (by (slice_get taken place) refl),
+)
   where
-    there : (o : Option Snapshot) → slice_get taken place ≡ o → slice_get (numbers taken) place
-        ≡ option_map (λ (one : Snapshot). one.number) o
-    there o e = slice_get-map (λ (one : Snapshot). one.number) taken place
-        ∙ ap (option_map (λ (one : Snapshot). one.number)) e
-
-    by : (o : Option Snapshot) → slice_get taken place ≡ o
-        → IsCallFor (numbers taken) (command.Release place) call
-    by None e =
-        let any = release_number (snapshot_named taken place) answer call asked in (
-          any.0,
-          subst (λ t. IfSome t (λ one. one ≡ any.0)) (sym (there None e)) tt,
-          any.1,
-        )
-    by (Some one) e = (
-      one.number,
-      subst (λ t. IfSome t (λ number. number ≡ one.number)) (sym (there (Some one) e)) refl,
-      own one (ap (λ o. release_snapshot (unwrap_or o no_snapshot)) e) (got_in taken place one e),
-    )
+    by : (there : Option Snapshot) → slice_get taken place ≡ there
+        → Contains taken (snapshot_named taken place) ⊎ ((snapshot_named taken place).number ≡ 0)
+    by None e = inr (ap (λ (o : Option Snapshot). (unwrap_or o no_snapshot).number) e)
+    by (Some one) e = inl (subst (Contains taken)
+        (ap (λ (o : Option Snapshot). unwrap_or o no_snapshot) (sym e)) (got_in taken place one e))
 
 pub call_for : (taken : List Snapshot) (one : Command) (answer : Answer) (call : Call)
+    → AreAbove taken
     → IsCallOf (request_of taken one) answer call → IsOwn taken (request_of taken one) call
     → IsCallFor (numbers taken) one call
-call_for taken (command.Put key value) answer call asked own = asked
-call_for taken (command.Delete key) answer call asked own = asked
-call_for taken (command.Write sync items) answer call asked own =
+call_for taken (command.Put key value) answer call above asked own = asked
+call_for taken (command.Delete key) answer call above asked own = asked
+call_for taken (command.Write sync items) answer call above asked own =
     asked ∙ ap (λ changes. headline.write changes sync) (same_changes items.items)
-call_for taken (command.Get key) answer call asked own = asked
-call_for taken command.Snap answer call asked own = asked
-call_for taken (command.GetAt place key) answer call asked own =
-    ((snapshot_named taken place).number, named_number taken place, asked)
-call_for taken (command.Release place) answer call asked own =
-    release_for taken place answer call asked own
-call_for taken (command.Walk None moves) answer call asked own =
+call_for taken (command.Get key) answer call above asked own = asked
+call_for taken command.Snap answer call above asked own = asked
+call_for taken (command.GetAt place key) answer call above asked own =
+    ((snapshot_named taken place).number, named_number taken place above, asked)
+call_for taken (command.Release place) answer call above asked own =
+    release_for taken place answer call above asked own
+call_for taken (command.Walk None moves) answer call above asked own =
     asked ∙ ap (headline.walk None) (same_moves moves.items)
-call_for taken (command.Walk (Some place) moves) answer call asked own = (
+call_for taken (command.Walk (Some place) moves) answer call above asked own = (
   (snapshot_named taken place).number,
-  named_number taken place,
+  named_number taken place above,
   asked ∙ ap (headline.walk (Some (snapshot_named taken place).number)) (same_moves moves.items),
 )
-call_for taken (command.Compact from to) answer call asked own = asked
-call_for taken command.Flush answer call asked own = asked
-call_for taken command.Close answer call asked own = asked
+call_for taken (command.Compact from to) answer call above asked own = asked
+call_for taken command.Flush answer call above asked own = asked
+call_for taken command.Close answer call above asked own = asked
 
 -- ---- what it returned
 

@@ -1,7 +1,8 @@
 -- What is told of the lives of a machine is the story of their reports.
-use Rattle.std.proofs.Common.{◌≡◌, ◌≤◌, ◌<◌, ◌+◌, ◌-◌, ◌⊎◌, ⊎_elim, inr, ℕ, List, [], ◌∷◌, ◌++◌, refl, sym, ◌∙◌, ap, subst, arith, Option, Some, None, Ok, Err, All}
+use Rattle.std.proofs.Common.{◌≡◌, ◌≤◌, ◌<◌, ◌+◌, ◌-◌, ◌⊎◌, ⊎_elim, inr, ℕ, List, [], ◌∷◌, ◌++◌, refl, sym, ◌∙◌, ap, subst, arith, Option, Some, None, Ok, Err, All, Contains}
 use Rattle.std.specs.Prelude.{map, Result, OnOk, OnErr}
-use Rattle.std.proofs.lemmas.List.Elements.{All-nil, All-cons, All-head, All-tail}
+use Rattle.std.proofs.lemmas.List.Elements.{All-nil, All-cons, All-head, All-tail, Contains-append_cases}
+use Rattle.leveldb_base.proofs.HistoryLemmas.{in_none}
 use Rattle.leveldb_base.specs.declared.error.Status.{Status}
 use Rattle.rusty_leveldb.specs.declared.shell.commands.Command.{Command}
 use Rattle.rusty_leveldb.specs.declared.shell.commands.Reply.{Reply}
@@ -15,8 +16,8 @@ use Rattle.rusty_leveldb.specs.Engines.Serves.{IsConversation, refusal_of}
 use Rattle.rusty_leveldb.specs.Programs.Lives.{requests_of, answers_of, moments_of, IsReportOf, ending_of}
 use Rattle.rusty_leveldb.specs.Programs.Shell.{AreAsked, AreTurns, Turn, given_by, request_of}
 use Rattle.rusty_leveldb.specs.Programs.Story.{AreCalled, AreCutShort, AreEventsOf, AreEventsOfLife, AreMomentsOf, IsCutShort, AreEventsUntil, IsLifeStory}
-use Rattle.rusty_leveldb.proofs.Headline.OwnLemmas.{AreOwn}
-use Rattle.rusty_leveldb.proofs.Programs.CallsMade.{numbers, call_for, reply_for, refused_with, numbers_then}
+use Rattle.rusty_leveldb.proofs.Headline.OwnLemmas.{AreOwn, GivesAbove}
+use Rattle.rusty_leveldb.proofs.Programs.CallsMade.{AreAbove, numbers, call_for, reply_for, refused_with, numbers_then}
 
 -- ---- a run
 
@@ -25,19 +26,19 @@ pub rest_is : (taken : List Snapshot) (turns : List Turn) (ending : Answer) (eve
     (told : List StoryEvent) → AreTurns taken turns
     → map (λ (e : Event). e.request) events ≡ map (λ (t : Turn). t.request) turns ++ abandon ∷ []
     → map (λ (e : Event). e.answer) events ≡ map (λ (t : Turn). t.answer) turns ++ ending ∷ []
-    → TellsEvents events told → AreOwn taken events told
+    → TellsEvents events told → AreOwn taken events told → AreAbove taken → All GivesAbove events
     → (middle : List StoryEvent) × (outcome : CallOutcome)
     × AreEventsOf (numbers taken) (map (λ (t : Turn). t.command) turns)
     (map (λ (t : Turn). t.reply) turns) middle
     × (told ≡ middle ++ returned headline.abandon outcome ∷ []) × IsOutcomeOf ending outcome
-rest_is taken [] ending [] told follow requests answers tells own = absurd (cc)
-rest_is taken [] ending (event ∷ next ∷ events) told follow requests answers tells own = absurd (cc)
-rest_is taken [] ending (event ∷ []) [] follow requests answers tells own = absurd tells
-rest_is taken [] ending (event ∷ []) (crash cut ∷ told) follow requests answers tells own =
+rest_is taken [] ending [] told follow requests answers tells own above all = absurd (cc)
+rest_is taken [] ending (event ∷ next ∷ events) told follow requests answers tells own above all = absurd (cc)
+rest_is taken [] ending (event ∷ []) [] follow requests answers tells own above all = absurd tells
+rest_is taken [] ending (event ∷ []) (crash cut ∷ told) follow requests answers tells own above all =
     absurd tells
 rest_is taken [] ending (event ∷ []) (returned call outcome ∷ one ∷ told) follow requests answers
-    tells own = absurd tells.2
-rest_is taken [] ending (event ∷ []) (returned call outcome ∷ []) follow requests answers tells own =
+    tells own above all = absurd tells.2
+rest_is taken [] ending (event ∷ []) (returned call outcome ∷ []) follow requests answers tells own above all =
     let asked : event.request ≡ abandon = cc in
     let is : call ≡ headline.abandon = subst (λ r. IsCallOf r event.answer call) asked tells.0 in
     let answered : event.answer ≡ ending = cc in (
@@ -47,12 +48,12 @@ rest_is taken [] ending (event ∷ []) (returned call outcome ∷ []) follow req
       ap (λ c. returned c outcome ∷ []) is,
       subst (λ a. IsOutcomeOf a outcome) answered tells.1,
     )
-rest_is taken (turn ∷ turns) ending [] told follow requests answers tells own = absurd (cc)
-rest_is taken (turn ∷ turns) ending (event ∷ events) [] follow requests answers tells own = absurd tells
+rest_is taken (turn ∷ turns) ending [] told follow requests answers tells own above all = absurd (cc)
+rest_is taken (turn ∷ turns) ending (event ∷ events) [] follow requests answers tells own above all = absurd tells
 rest_is taken (turn ∷ turns) ending (event ∷ events) (crash cut ∷ told) follow requests answers
-    tells own = absurd tells
+    tells own above all = absurd tells
 rest_is taken (turn ∷ turns) ending (event ∷ events) (returned call outcome ∷ told) follow requests
-    answers tells own =
+    answers tells own above all =
     let asked : event.request ≡ turn.request = cc in
     let answered : event.answer ≡ turn.answer = cc in
     let later : map (λ (e : Event). e.request) events
@@ -66,12 +67,18 @@ rest_is taken (turn ∷ turns) ending (event ∷ events) (returned call outcome 
     subst (λ a. IsOutcomeOf a outcome) answered tells.1 in
     let own_later : AreOwn (taken ++ given_by turn.answer) events told =
     subst (λ a. AreOwn (taken ++ given_by a) events told) answered own.1 in
+    let above_later : AreAbove (taken ++ given_by turn.answer) = λ one c. ⊎_elim
+    (λ (a : Contains taken one). above one a)
+    (λ (a : Contains (given_by turn.answer) one). All-head GivesAbove event events all one
+    (subst (λ a. Contains (given_by a) one) (sym answered) a))
+    (Contains-append_cases taken (given_by turn.answer) one c) in
     let rest = rest_is (taken ++ given_by turn.answer) turns ending events told follow.1 later
-    later_answers tells.2 own_later in (
+    later_answers tells.2 own_later above_later
+    (All-tail GivesAbove event events all) in (
       returned call outcome ∷ rest.0,
       rest.1,
       (
-        call_for taken turn.command turn.answer call call_is
+        call_for taken turn.command turn.answer call above call_is
             (λ one e c. own.0 one (asked ∙ follow.0.0 ∙ e) c),
         reply_for taken turn.reply turn.answer outcome follow.0.1 outcome_is,
         subst (λ given. AreEventsOf given (map (λ (t : Turn). t.command) turns)
@@ -89,13 +96,13 @@ module _ (opening : Opening) (commands : List Command) (replies : List Reply)
       → AreAsked commands replies asked given
       → map (λ (e : Event). e.request) events ≡ open_store opening ∷ (asked ++ abandon ∷ [])
       → map (λ (e : Event). e.answer) events ≡ done ∷ (given ++ ending ∷ [])
-      → TellsEvents events told → AreOwn [] events told
+      → TellsEvents events told → AreOwn [] events told → All GivesAbove events
       → (outcome : CallOutcome) × AreCalled commands replies outcome told
       × IsOutcomeOf ending outcome
-  called_is [] told are requests answers tells own = absurd (cc)
-  called_is (event ∷ events) [] are requests answers tells own = absurd tells
-  called_is (event ∷ events) (crash cut ∷ told) are requests answers tells own = absurd tells
-  called_is (event ∷ events) (returned call outcome ∷ told) are requests answers tells own =
+  called_is [] told are requests answers tells own all = absurd (cc)
+  called_is (event ∷ events) [] are requests answers tells own all = absurd tells
+  called_is (event ∷ events) (crash cut ∷ told) are requests answers tells own all = absurd tells
+  called_is (event ∷ events) (returned call outcome ∷ told) are requests answers tells own all =
       let opens : event.request ≡ open_store opening = cc in
       let answered : event.answer ≡ done = cc in
       let later : map (λ (e : Event). e.request) events ≡ asked ++ abandon ∷ [] = cc in
@@ -107,7 +114,8 @@ module _ (opening : Opening) (commands : List Command) (replies : List Reply)
       let rest = rest_is [] are.turns ending events told are.follow
       (later ∙ ap (λ (rs : List Request). rs ++ abandon ∷ []) (sym are.requests_are))
       (later_answers ∙ ap (λ (answers : List Answer). answers ++ ending ∷ []) (sym are.answers_are))
-      tells.2 (subst (λ a. AreOwn (given_by a) events told) answered own.1) in (
+      tells.2 (subst (λ a. AreOwn (given_by a) events told) answered own.1)
+      (λ one there. absurd (in_none one there)) (All-tail GivesAbove event events all) in (
         rest.1,
         (
           rest.0,
@@ -125,17 +133,18 @@ module _ (opening : Opening) (commands : List Command) (replies : List Reply)
       → OnErr opened (replies ≡ [])
       → map (λ (e : Event). e.request) events ≡ requests_of opening asked opened
       → map (λ (e : Event). e.answer) events ≡ answers_of opened given ending
-      → TellsEvents events told → AreOwn [] events told → AreEventsOfLife opened commands replies told
-  run_is (Ok opened) events told are none requests answers tells own =
-      let called = called_is events told are requests answers tells own in (called.0, called.1)
-  run_is (Err status) [] told are none requests answers tells own = absurd (cc)
-  run_is (Err status) (event ∷ next ∷ events) told are none requests answers tells own = absurd (cc)
-  run_is (Err status) (event ∷ []) [] are none requests answers tells own = absurd tells
-  run_is (Err status) (event ∷ []) (crash cut ∷ told) are none requests answers tells own =
+      → TellsEvents events told → AreOwn [] events told → All GivesAbove events
+      → AreEventsOfLife opened commands replies told
+  run_is (Ok opened) events told are none requests answers tells own all =
+      let called = called_is events told are requests answers tells own all in (called.0, called.1)
+  run_is (Err status) [] told are none requests answers tells own all = absurd (cc)
+  run_is (Err status) (event ∷ next ∷ events) told are none requests answers tells own all = absurd (cc)
+  run_is (Err status) (event ∷ []) [] are none requests answers tells own all = absurd tells
+  run_is (Err status) (event ∷ []) (crash cut ∷ told) are none requests answers tells own all =
       absurd tells
   run_is (Err status) (event ∷ []) (returned call outcome ∷ one ∷ told) are none requests answers
-      tells own = absurd tells.2
-  run_is (Err status) (event ∷ []) (returned call outcome ∷ []) are none requests answers tells own =
+      tells own all = absurd tells.2
+  run_is (Err status) (event ∷ []) (returned call outcome ∷ []) are none requests answers tells own all =
       let opens : event.request ≡ open_store opening = cc in
       let answered : event.answer ≡ refused (refusal_of status) = cc in
       let call_is : call ≡ headline.open_store =
@@ -364,7 +373,8 @@ module _ (events : List Event) (moment : ℕ) (told : List StoryEvent)
 module _ (opening : Opening) (commands : List Command) (report : Report) (start : ℕ)
     (requests : List Request) (answers : List Answer) (moments : List ℕ) (events : List Event)
     (is : IsReportOf opening commands report requests answers moments)
-    (asked : IsConversation requests answers (map (λ moment. start + moment) moments) events) where
+    (asked : IsConversation requests answers (map (λ moment. start + moment) moments) events)
+    (above : All GivesAbove events) where
   moments_are : (opened : Result (Unit {0}) Status) (there : List ℕ)
       → there ≡ moments_of opened report.replies.items is.first is.last
       → AreMomentsOf opened (map (λ (one : ℕ × Reply). one.0) report.replies.items) there
@@ -378,7 +388,7 @@ module _ (opening : Opening) (commands : List Command) (report : Report) (start 
       run_is opening commands (map (λ (one : ℕ × Reply). one.1) report.replies.items) is.asked
       is.told is.ending report.opened events told is.are_asked
       (no_replies report.opened is.no_replies) (asked.requests_are ∙ is.requests_are)
-      (asked.answers_are ∙ is.answers_are) tells own
+      (asked.answers_are ∙ is.answers_are) tells own above
     where
       no_replies : (opened : Result (Unit {0}) Status) → OnErr opened (report.replies.items ≡ [])
           → OnErr opened (map (λ (one : ℕ × Reply). one.1) report.replies.items ≡ [])

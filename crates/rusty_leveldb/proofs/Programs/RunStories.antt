@@ -24,7 +24,7 @@ use Rattle.rusty_leveldb.specs.Programs.Shell.{AreAsked, HasRun, RunsCommands}
 use Rattle.rusty_leveldb.specs.Programs.Story.{AreCalled, IsRunOf, IsRunStory, LeadsTo, SaysRun}
 use Rattle.rusty_leveldb.specs.Says.{Place}
 use Rattle.rusty_leveldb.proofs.Engines.Crashes.{crash_between}
-use Rattle.rusty_leveldb.proofs.Headline.OwnLemmas.{AreOwn, IsOpening, OpensFirst}
+use Rattle.rusty_leveldb.proofs.Headline.OwnLemmas.{AreOwn, IsOpening, OpensFirst, run_above}
 use Rattle.rusty_leveldb.proofs.Headline.StoryLemmas.{between_told}
 use Rattle.rusty_leveldb.proofs.Programs.CallsMade.{refused_with}
 use Rattle.rusty_leveldb.proofs.Programs.LifeStories.{all_cut, all_own, all_tells, all_told, called_is, run_is}
@@ -110,7 +110,9 @@ module _ {E F : Type 0} (env : Ghosts E F) (only_now : OnlyNow env) (name : List
         (requests_opened order opening requests (Ok tt) commands given answers order_is are)
         (λ told tells own.
         let called = called_is opening commands given requests answers (done_or ended)
-        leads.1.events told are leads.1.asked.requests_are leads.1.asked.answers_are tells own in (
+        leads.1.events told are leads.1.asked.requests_are leads.1.asked.answers_are tells own
+        (run_above meaning leads.1.events (env.failures from) (env.failures to) old leads.1.new
+        leads.1.run) in (
           ended_so ended called.0 told called.2 called.1,
           λ none. let never : returned headline.open_store headline.done
               ∷ (called.1.0 ++ returned headline.abandon called.0 ∷ []) ≡ [] =
@@ -129,7 +131,9 @@ module _ {E F : Type 0} (env : Ghosts E F) (only_now : OnlyNow env) (name : List
       (All-cons (IsOpenedIn order) (open_store opening) [] order_is (All-nil (IsOpenedIn order)))
       (λ told tells own.
       let is = run_is opening commands given [] [] done (Err status) leads.1.events told tt none
-      leads.1.asked.requests_are leads.1.asked.answers_are tells own in (
+      leads.1.asked.requests_are leads.1.asked.answers_are tells own
+      (run_above meaning leads.1.events (env.failures from) (env.failures to) old leads.1.new
+      leads.1.run) in (
         inr (inl is),
         λ empty. let never : returned headline.open_store is.1 ∷ [] ≡ [] = sym is.3 ∙ empty in
             absurd (cc),

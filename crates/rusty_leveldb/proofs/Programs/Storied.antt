@@ -22,7 +22,7 @@ use Rattle.rusty_leveldb.specs.Programs.Lives.{IsAlwaysLife, IsLife, answers_of,
 use Rattle.rusty_leveldb.specs.Programs.Shell.{AreAsked, AreTurns, Turn, given_by, request_of}
 use Rattle.rusty_leveldb.specs.Programs.Story.{IsLeftAt, IsLifeStory, IsLifeTold, LeadsTo, SaysLived}
 use Rattle.rusty_leveldb.specs.Says.{Place}
-use Rattle.rusty_leveldb.proofs.Headline.OwnLemmas.{IsOpening, OpensFirst, first_told}
+use Rattle.rusty_leveldb.proofs.Headline.OwnLemmas.{IsOpening, OpensFirst, first_told, run_above}
 use Rattle.rusty_leveldb.proofs.Headline.StoryLemmas.{both_told, cut_told}
 use Rattle.rusty_leveldb.proofs.Machines.RunsLemmas.{all_front}
 use Rattle.rusty_leveldb.proofs.Programs.LifeStories.{TellsOwnLife, life_story}
@@ -363,7 +363,9 @@ module _ {E F : Type 0} (env : Ghosts E F) (name : List ℕ) (asked : Opening)
       → TellsOwnLife lived.run.events (ending_of start moment) told
       → IsLifeStory commands moment report told
   reported moment told = life_story opening commands report start lived.requests lived.answers
-      from_start lived.run.events lived.reported asked_again moment told
+      from_start lived.run.events lived.reported asked_again
+      (run_above meaning lived.run.events (env.failures from) (env.failures to) old lived.run.new
+      lived.run.run) moment told
 
   pub life_told : IsLifeTold env stored (record { name = name; meaning = meaning })
       asked.format.order store commands from report to

@@ -1,6 +1,6 @@
 -- The store as a machine: the answers that a request may have in a state, and the states to which
 -- they lead.
-use Rattle.std.specs.Prelude.{◌≡◌, ◌≤◌, ◌+◌, ◌⊎◌, ℕ, Bool, true, false, List, [], ◌∷◌, ◌++◌, length, Option, Some, None, Contains, IsTrue}
+use Rattle.std.specs.Prelude.{◌≡◌, ◌≤◌, ◌<◌, ◌+◌, ◌⊎◌, ℕ, Bool, true, false, List, [], ◌∷◌, ◌++◌, length, Option, Some, None, Contains, IsTrue}
 use Rattle.std.specs.declared.cmp.Ordering.{Ordering}
 use Rattle.leveldb_base.specs.History.{Item, Entry, History, placed, entries_of, greatest, with_batch, count_of, IsPrefixAtLeast, IsValueAt, IsView}
 use Rattle.leveldb_base.specs.Types.{Pair, position_within, next_position, previous_position, seek_position, pair_at}
@@ -45,10 +45,12 @@ pub record Breaks (old : State) (batch : Option (List Entry)) (new : State) : Ty
 
 -- ---- snapshots
 
--- one more snapshot is held, of the last number, under a number that wasn't given out before
+-- one more snapshot is held, of the last number, under a number above 0 that wasn't given out
+-- before
 pub record Gives (old : State) (one : Snapshot) (new : State) : Type 0 where
   pub sequence : one.sequence ≡ old.last
   pub fresh : Contains old.given one.number → ⊥
+  pub above : 0 < one.number
   pub state : new ≡ record old {
     held = old.held ++ one ∷ [];
     given = old.given ++ one.number ∷ [];

@@ -1,6 +1,6 @@
 -- Runs and lives as a story of the headline: commands are calls, replies say what they returned,
 -- and a crash is where it comes. Only what follows has to be known beside the headline.
-use Rattle.std.specs.Prelude.{◌≡◌, ◌≤◌, ◌<◌, ◌+◌, ◌⊎◌, ℕ, false, All, List, [], ◌∷◌, ◌++◌, length, map, slice_get, Option, Some, None, IfSome, Result, Ok, Err, IsTrue}
+use Rattle.std.specs.Prelude.{◌≡◌, ◌≤◌, ◌<◌, ◌+◌, ◌⊎◌, ℕ, false, All, Contains, List, [], ◌∷◌, ◌++◌, length, map, slice_get, Option, Some, None, Result, Ok, Err, IsTrue}
 use Rattle.std.specs.declared.cmp.Ordering.{Ordering}
 use Rattle.leveldb_base.specs.declared.error.Status.{Status}
 use Rattle.leveldb_base.specs.declared.error.StatusCode.TheVariants.{OutOfMemory}
@@ -29,9 +29,10 @@ change_for (item.Put key value) = record { key = key.items; value = Some value.i
 change_for (item.Delete key) = record { key = key.items; value = None }
 
 -- Of snapshots that were given out with these numbers, the one in this place, counted from 0, has
--- this number; where none was given out in that place, any number will do.
+-- this number. Where none was given out in that place, it is a number that none of them has.
 abbrev pub HasNumber : List ℕ → ℕ → ℕ → Type 0
-HasNumber given place number = IfSome (slice_get given place) (λ one. one ≡ number)
+HasNumber given place number = (slice_get given place ≡ Some number)
+    ⊎ ((slice_get given place ≡ None) × (Contains given number → ⊥))
 
 -- the call that a command is, where snapshots were given out with these numbers before it
 abbrev pub IsCallFor : List ℕ → Command → Call → Type 0
