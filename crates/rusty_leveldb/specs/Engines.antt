@@ -1,4 +1,5 @@
 -- An engine beside the machine: what it has in memory, and what each call does.
+pub mod AnyValue
 pub mod EngineValue
 pub mod Boxes
 pub mod Frame

@@ -22,4 +22,4 @@ pub use leveldb_store::build::{build_memtable, build_table};
 pub use read_only::ReadOnlyEngine;
 pub use read_only_db::{ReadOnlyDB, open_read_only};
 pub use repairing::repair;
-pub use store::{DB, Store};
+pub use store::{DB, DiskDB, MemDB, Store};

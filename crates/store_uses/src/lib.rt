@@ -6,5 +6,6 @@
 mod engines;
 #[cfg(test)]
 mod example;
+pub mod passing;
 #[cfg(test)]
 mod stores;

@@ -5,6 +5,7 @@ ghost use Rattle.leveldb_env.specs.Env.{lock_set, same, ChangesFiles, FilesUncha
 ghost use Rattle.leveldb_store.specs.Tables.BuildTable.{choices_of};
 ghost use Rattle.leveldb_files.specs.Stores.Format.{format_of};
 ghost use Rattle.rusty_leveldb.specs.Engines.Calls.{EngineAbandons, EngineCloses};
+ghost use Rattle.rusty_leveldb.specs.Engines.AnyValue.{IsAnyValue};
 
 use super::engine::{Engine, Mode};
 use leveldb_base::cmp::{Cmp, InternalKeyCmp, UserCmp};
@@ -17,6 +18,7 @@ impl<E: Env, C: UserCmp + Copy, FP: FilterPolicy + Copy> Engine<E, C, FP> {
     /// Makes a crash keep all batches and gives back the lock. An open store that fails to do so is
     /// broken, and keeps its lock.
     pub fn close(&mut self, env: &mut E) -> Result<()>
+        requires any { IsAnyValue self.old }
         ensures { let choices = choices_of C.Cmp FP.FilterPolicy
             ⟦<InternalKeyCmp<C> as Cmp>⟧ ⟦<InternalFilterPolicy<FP> as FilterPolicy>⟧
             ⟦<CompressorList as Compressors>⟧.codings in

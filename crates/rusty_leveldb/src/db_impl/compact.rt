@@ -5,6 +5,7 @@ ghost use Rattle.leveldb_store.specs.Tables.BuildTable.{choices_of};
 ghost use Rattle.rusty_leveldb.specs.Engines.Calls.{EngineCompacts};
 ghost use Rattle.rusty_leveldb.specs.Compactions.Compact.{EngineCompactsStore};
 ghost use Rattle.rusty_leveldb.specs.Machines.State.{open_mode};
+ghost use Rattle.rusty_leveldb.specs.Engines.AnyValue.{IsAnyValue};
 
 use super::engine::{Engine, keep_removal, mode_by};
 use leveldb_base::cmp::{Cmp, InternalKeyCmp, UserCmp};
@@ -19,6 +20,7 @@ impl<E: Env, C: UserCmp + Copy, FP: FilterPolicy + Copy> Engine<E, C, FP> {
     /// user keys, ends included; an empty key is an open end. `DB::compact_range` says what each
     /// result means.
     pub fn compact_range(&mut self, env: &mut E, from: &[u8], to: &[u8]) -> Result<()>
+        requires any { IsAnyValue self.old }
         ensures { let choices = choices_of C.Cmp FP.FilterPolicy
             ⟦<InternalKeyCmp<C> as Cmp>⟧ ⟦<InternalFilterPolicy<FP> as FilterPolicy>⟧
             ⟦<CompressorList as Compressors>⟧.codings in

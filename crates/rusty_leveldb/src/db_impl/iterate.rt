@@ -5,6 +5,7 @@ ghost use Rattle.std.specs.Option.{option_map};
 ghost use Rattle.leveldb_base.specs.Error.{IsOutOfMemory};
 ghost use Rattle.rusty_leveldb.specs.Walks.Iterator.{EngineIterates, IsMadeOver};
 ghost use Rattle.rusty_leveldb.specs.Engines.Serves.{snapshot_of};
+ghost use Rattle.rusty_leveldb.specs.Engines.AnyValue.{IsAnyValue};
 
 use super::engine::Engine;
 use crate::db_iter::{DBIterator, StoreIterator, StoreTables};
@@ -24,6 +25,7 @@ use std::alloc::Global;
 impl<E: Env, C: UserCmp + Copy, FP: FilterPolicy + Copy> Engine<E, C, FP> {
     /// An iterator over the store as it is now, at no position.
     pub fn new_iter<'a>(&'a mut self, env: &'a mut E) -> Result<DBIterator<'a, E, C, FP>>
+        requires any { IsAnyValue self.old }
         ensures reference { IfOk result (λ it. it.env.ghost_name ≡ env.entry.ghost_name) }
         ensures iterates { let codings = ⟦<CompressorList as Compressors>⟧.codings in
             let walk = ⟦<StoreView<'a, C> as Walk<E, StoreTables<'a, E, C, FP>>>⟧ in
@@ -40,6 +42,7 @@ impl<E: Env, C: UserCmp + Copy, FP: FilterPolicy + Copy> Engine<E, C, FP> {
         env: &'a mut E,
         snapshot: Snapshot,
     ) -> Result<DBIterator<'a, E, C, FP>>
+        requires any { IsAnyValue self.old }
         ensures reference { IfOk result (λ it. it.env.ghost_name ≡ env.entry.ghost_name) }
         ensures iterates { let codings = ⟦<CompressorList as Compressors>⟧.codings in
             let walk = ⟦<StoreView<'a, C> as Walk<E, StoreTables<'a, E, C, FP>>>⟧ in

@@ -3,6 +3,7 @@
 ghost use Rattle.rusty_leveldb.specs.Engines.Engine.{opening_of};
 ghost use Rattle.leveldb_store.specs.Tables.BuildTable.{choices_of};
 ghost use Rattle.rusty_leveldb.specs.Engines.Calls.{EngineOpens};
+ghost use Rattle.rusty_leveldb.specs.Engines.AnyValue.{IsAnyValue};
 
 use super::close::give_back;
 use super::engine::{Engine, Mode};
@@ -38,6 +39,7 @@ impl<E: Env, C: UserCmp + Copy, FP: FilterPolicy + Copy> Engine<E, C, FP> {
         env: &mut E,
         options: Options<C, FP>,
     ) -> Result<Engine<E, C, FP>>
+        requires any { IsAnyValue options }
         ensures { let codings = ⟦<CompressorList as Compressors>⟧.codings in
             EngineOpens E.Env (choices_of C.Cmp FP.FilterPolicy ⟦<InternalKeyCmp<C> as Cmp>⟧
             ⟦<InternalFilterPolicy<FP> as FilterPolicy>⟧ codings) name.now options

@@ -6,6 +6,7 @@ ghost use Rattle.leveldb_base.specs.declared.error.StatusCode.TheVariants.{Inval
 ghost use Rattle.rusty_leveldb.specs.Engines.Serves.{snapshot_of};
 ghost use Rattle.leveldb_store.specs.Tables.BuildTable.{choices_of};
 ghost use Rattle.rusty_leveldb.specs.Engines.Calls.{EngineGets};
+ghost use Rattle.rusty_leveldb.specs.Engines.AnyValue.{IsAnyValue};
 
 use super::engine::Engine;
 use bytes::Bytes;
@@ -20,6 +21,7 @@ use leveldb_iter::snapshot::Snapshot;
 impl<E: Env, C: UserCmp + Copy, FP: FilterPolicy + Copy> Engine<E, C, FP> {
     /// The key's value, or none if it has none.
     pub fn get(&mut self, env: &mut E, key: &[u8]) -> Result<Option<Bytes>>
+        requires any { IsAnyValue self.old }
         ensures { let choices = choices_of C.Cmp FP.FilterPolicy
             ⟦<InternalKeyCmp<C> as Cmp>⟧ ⟦<InternalFilterPolicy<FP> as FilterPolicy>⟧
             ⟦<CompressorList as Compressors>⟧.codings in
@@ -36,6 +38,7 @@ impl<E: Env, C: UserCmp + Copy, FP: FilterPolicy + Copy> Engine<E, C, FP> {
     /// The key's value at a snapshot, or none if it had none. A snapshot that isn't held is
     /// `InvalidArgument`.
     pub fn get_at(&mut self, env: &mut E, snapshot: Snapshot, key: &[u8]) -> Result<Option<Bytes>>
+        requires any { IsAnyValue self.old }
         ensures { let choices = choices_of C.Cmp FP.FilterPolicy
             ⟦<InternalKeyCmp<C> as Cmp>⟧ ⟦<InternalFilterPolicy<FP> as FilterPolicy>⟧
             ⟦<CompressorList as Compressors>⟧.codings in

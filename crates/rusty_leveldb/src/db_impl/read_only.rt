@@ -3,6 +3,7 @@ ghost use Rattle.std.specs.Prelude.{◌≡◌, ◌++◌, List, IfOk};
 ghost use Rattle.leveldb_files.specs.Stores.Format.{format_of};
 ghost use Rattle.rusty_leveldb.specs.Engines.Engine.{opening_of};
 ghost use Rattle.rusty_leveldb.specs.Openings.ReadAlone.{ReaderGets, ReaderIterates, ReaderOpens, ReaderWalks};
+ghost use Rattle.rusty_leveldb.specs.Engines.AnyValue.{IsAnyValue};
 
 use super::iterate::iter_over;
 use super::names::check_name;
@@ -77,6 +78,7 @@ impl<E: Env, C: UserCmp + Copy, FP: FilterPolicy + Copy> ReadOnlyEngine<E, C, FP
         env: &mut E,
         options: Options<C, FP>,
     ) -> Result<ReadOnlyEngine<E, C, FP>>
+        requires any { IsAnyValue options }
         ensures { let codings = ⟦<CompressorList as Compressors>⟧.codings in
             ReaderOpens ⟦<InternalKeyCmp<C> as Cmp>⟧ E.Env
             (format_of C.Cmp FP.FilterPolicy codings) name.now options
@@ -98,6 +100,7 @@ impl<E: Env, C: UserCmp + Copy, FP: FilterPolicy + Copy> ReadOnlyEngine<E, C, FP
 
     /// The key's value, or none if it has none.
     pub fn get(&mut self, env: &mut E, key: &[u8]) -> Result<Option<Bytes>>
+        requires any { IsAnyValue self.old }
         ensures { let codings = ⟦<CompressorList as Compressors>⟧.codings in
             ReaderGets ⟦<InternalKeyCmp<C> as Cmp>⟧ E.Env
             (format_of C.Cmp FP.FilterPolicy codings) self.old env.old key.now result self.new
@@ -113,6 +116,7 @@ impl<E: Env, C: UserCmp + Copy, FP: FilterPolicy + Copy> ReadOnlyEngine<E, C, FP
     /// Makes moves of a walk over the store, from no position on. `steps` gains where each led. A
     /// move that fails leaves no position, and the next one goes on from there.
     pub fn walk(&mut self, env: &mut E, moves: &[Move], steps: &mut Vec<Step>) -> Result<()>
+        requires any { IsAnyValue self.old }
         ensures { let codings = ⟦<CompressorList as Compressors>⟧.codings in
             (given : List Step) × (steps.new.items ≡ steps.old.items ++ given)
             × ReaderWalks ⟦<InternalKeyCmp<C> as Cmp>⟧ E.Env
@@ -128,6 +132,7 @@ impl<E: Env, C: UserCmp + Copy, FP: FilterPolicy + Copy> ReadOnlyEngine<E, C, FP
 
     /// An iterator over the store, at no position.
     pub fn new_iter<'a>(&'a mut self, env: &'a mut E) -> Result<DBIterator<'a, E, C, FP>>
+        requires any { IsAnyValue self.old }
         ensures reference { IfOk result (λ it. it.env.ghost_name ≡ env.entry.ghost_name) }
         ensures iterates { let codings = ⟦<CompressorList as Compressors>⟧.codings in
             let walk = ⟦<StoreView<'a, C> as Walk<E, StoreTables<'a, E, C, FP>>>⟧ in

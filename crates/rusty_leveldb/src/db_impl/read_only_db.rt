@@ -5,6 +5,7 @@ ghost use Rattle.leveldb_files.specs.Stores.Format.{format_of};
 ghost use Rattle.rusty_leveldb.specs.Engines.Calls.{result_map};
 ghost use Rattle.rusty_leveldb.specs.Engines.Engine.{opening_of};
 ghost use Rattle.rusty_leveldb.specs.Openings.ReadAlone.{ReaderGets, ReaderIterates, ReaderOpens, ReaderWalks};
+ghost use Rattle.rusty_leveldb.specs.Engines.AnyValue.{IsAnyValue};
 
 use super::read_only::ReadOnlyEngine;
 use super::store::Store;
@@ -47,6 +48,7 @@ pub fn open_read_only<'e, E: Env, C: UserCmp + Copy, FP: FilterPolicy + Copy>(
     env: &'e mut E,
     opt: Options<C, FP>,
 ) -> Result<ReadOnlyDB<'e, E, C, FP>>
+    requires any { IsAnyValue opt }
     ensures same_reference { IfOk result (λ db. db.env.ghost_name ≡ env.entry.ghost_name) }
     ensures opens { let codings = ⟦<CompressorList as Compressors>⟧.codings in
         (left : E) × IfOk result (λ db. db.env.now ≡ left)
@@ -67,6 +69,7 @@ impl<'e, E: Env, C: UserCmp + Copy, FP: FilterPolicy + Copy> Store<
     ///
     /// Ok: the value that the history's map has. Err: nothing changes.
     pub fn get(&mut self, key: &[u8]) -> Result<Option<Bytes>>
+        requires any { IsAnyValue self.old }
         ensures same_reference { self.new.env.ghost_name ≡ self.old.env.ghost_name }
         ensures gets { let codings = ⟦<CompressorList as Compressors>⟧.codings in
             ReaderGets ⟦<InternalKeyCmp<C> as Cmp>⟧ E.Env
@@ -81,6 +84,7 @@ impl<'e, E: Env, C: UserCmp + Copy, FP: FilterPolicy + Copy> Store<
     ///
     /// Ok: each move led where a walk over the history's sorted map leads. Err: no move was made.
     pub fn walk(&mut self, moves: &[Move], steps: &mut Vec<Step>) -> Result<()>
+        requires any { IsAnyValue self.old }
         ensures same_reference { self.new.env.ghost_name ≡ self.old.env.ghost_name }
         ensures walks { let codings = ⟦<CompressorList as Compressors>⟧.codings in
             (given : List Step) × (steps.new.items ≡ steps.old.items ++ given)
@@ -99,6 +103,7 @@ impl<'e, E: Env, C: UserCmp + Copy, FP: FilterPolicy + Copy> Store<
     /// After it: once this was called, also in vain, no contract says what the store shows. Use
     /// `walk` where you need the store after an iterator.
     pub fn new_iter<'a>(&'a mut self) -> Result<DBIterator<'a, E, C, FP>>
+        requires any { IsAnyValue self.old }
         ensures { let codings = ⟦<CompressorList as Compressors>⟧.codings in
             let walk = ⟦<StoreView<'a, C> as Walk<E, StoreTables<'a, E, C, FP>>>⟧ in
             ReaderIterates ⟦<InternalKeyCmp<C> as Cmp>⟧ E.Env C.Cmp FP.FilterPolicy codings walk

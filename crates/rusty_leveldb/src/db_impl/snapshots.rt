@@ -8,6 +8,7 @@ ghost use Rattle.rusty_leveldb.specs.Engines.Engine.{held_in};
 ghost use Rattle.leveldb_store.specs.Tables.BuildTable.{choices_of};
 ghost use Rattle.rusty_leveldb.specs.Engines.Calls.{EngineHolds, EngineReleases};
 ghost use Rattle.rusty_leveldb.specs.Programs.Views.{RefusesUnknown};
+ghost use Rattle.rusty_leveldb.specs.Engines.AnyValue.{IsAnyValue};
 
 use super::engine::Engine;
 use leveldb_base::cmp::{Cmp, InternalKeyCmp, UserCmp};
@@ -21,6 +22,7 @@ impl<E: Env, C: UserCmp + Copy, FP: FilterPolicy + Copy> Engine<E, C, FP> {
     /// Holds the store as it is now: look-ups at the snapshot find what look-ups find now, until it
     /// is released or the store is closed.
     pub fn get_snapshot(&mut self) -> Result<Snapshot>
+        requires any { IsAnyValue self.old }
         ensures { let choices = choices_of C.Cmp FP.FilterPolicy
             ⟦<InternalKeyCmp<C> as Cmp>⟧ ⟦<InternalFilterPolicy<FP> as FilterPolicy>⟧
             ⟦<CompressorList as Compressors>⟧.codings in
@@ -35,6 +37,7 @@ impl<E: Env, C: UserCmp + Copy, FP: FilterPolicy + Copy> Engine<E, C, FP> {
     /// Releases a snapshot. One that isn't held is `InvalidArgument`; one that is held is released,
     /// whatever memory there is.
     pub fn release_snapshot(&mut self, snapshot: Snapshot) -> Result<()>
+        requires any { IsAnyValue self.old }
         ensures { let choices = choices_of C.Cmp FP.FilterPolicy
             ⟦<InternalKeyCmp<C> as Cmp>⟧ ⟦<InternalFilterPolicy<FP> as FilterPolicy>⟧
             ⟦<CompressorList as Compressors>⟧.codings in

@@ -16,15 +16,18 @@ ghost use Rattle.rusty_leveldb.specs.Engines.Calls.{EngineAbandons, EngineCloses
 ghost use Rattle.rusty_leveldb.specs.Engines.Calls.{EngineHolds, EngineOpens, EngineReleases, EngineWalks};
 ghost use Rattle.rusty_leveldb.specs.Engines.Calls.{EngineWrites, result_map};
 ghost use Rattle.rusty_leveldb.specs.Walks.Iterator.{EngineIterates};
+ghost use Rattle.rusty_leveldb.specs.Engines.AnyValue.{IsAnyValue};
 
 use super::engine::Engine;
 use crate::db_iter::{DBIterator, StoreTables};
 use bytes::Bytes;
-use leveldb_base::cmp::{Cmp, InternalKeyCmp, UserCmp};
+use leveldb_base::cmp::{Cmp, DefaultCmp, InternalKeyCmp, UserCmp};
 use leveldb_base::error::Result;
+use leveldb_disks::disk_env::PosixDiskEnv;
 use leveldb_env::compressor::{CompressorList, Compressors};
 use leveldb_env::env::Env;
-use leveldb_env::filter::{FilterPolicy, InternalFilterPolicy};
+use leveldb_env::filter::{BloomPolicy, FilterPolicy, InternalFilterPolicy};
+use leveldb_env::mem_env::MemEnv;
 use leveldb_env::options::Options;
 use leveldb_iter::moves::{Move, Step};
 use leveldb_iter::snapshot::Snapshot;
@@ -70,6 +73,12 @@ pub struct Store<'e, E: Env, S: Drop> {
 /// machine that its contract has for this (`specs/Engines/Calls`).
 pub type DB<'e, E, C, FP> = Store<'e, E, Engine<E, C, FP>>;
 
+/// A store in memory, with LevelDB's order of bytes and its filters.
+pub type MemDB<'e> = DB<'e, MemEnv, DefaultCmp, BloomPolicy>;
+
+/// A store in real files, with LevelDB's order of bytes and its filters.
+pub type DiskDB<'e, R> = DB<'e, PosixDiskEnv<R>, DefaultCmp, BloomPolicy>;
+
 impl<E: Env, S: Drop> Drop for Store<'_, E, S> {
     /// A store that is dropped leaves its environment as it is: its lock stays held.
     fn drop(self)
@@ -110,6 +119,7 @@ impl<'e, E: Env, C: UserCmp + Copy, FP: FilterPolicy + Copy> Store<'e, E, Engine
         env: &'e mut E,
         options: Options<C, FP>,
     ) -> Result<DB<'e, E, C, FP>>
+        requires any { IsAnyValue options }
         ensures says { let codings = ⟦<CompressorList as Compressors>⟧.codings in
             (left : E) × IfOk result (λ db. db.env.now ≡ left)
             × SaysOpened E.Env (shown_by ⟦<InternalKeyCmp<C> as Cmp>⟧ E.Env C.Cmp FP.FilterPolicy
@@ -134,6 +144,7 @@ impl<'e, E: Env, C: UserCmp + Copy, FP: FilterPolicy + Copy> Store<'e, E, Engine
     /// change may be found when it is opened again (`NotWritten`).
     /// Crash: the latest changes may be lost, up to those that are durable.
     pub fn put(&mut self, key: &[u8], value: &[u8]) -> Result<()>
+        requires any { IsAnyValue self.old }
         ensures says { let codings = ⟦<CompressorList as Compressors>⟧.codings in
             Says E.Env (shown_by ⟦<InternalKeyCmp<C> as Cmp>⟧ E.Env C.Cmp FP.FilterPolicy codings)
             self.old.state self.old.env.now
@@ -156,6 +167,7 @@ impl<'e, E: Env, C: UserCmp + Copy, FP: FilterPolicy + Copy> Store<'e, E, Engine
     /// change may be found when it is opened again (`NotWritten`).
     /// Crash: the latest changes may be lost, up to those that are durable.
     pub fn delete(&mut self, key: &[u8]) -> Result<()>
+        requires any { IsAnyValue self.old }
         ensures says { let codings = ⟦<CompressorList as Compressors>⟧.codings in
             Says E.Env (shown_by ⟦<InternalKeyCmp<C> as Cmp>⟧ E.Env C.Cmp FP.FilterPolicy codings)
             self.old.state self.old.env.now
@@ -183,6 +195,7 @@ impl<'e, E: Env, C: UserCmp + Copy, FP: FilterPolicy + Copy> Store<'e, E, Engine
     /// when it is opened again (`NotWritten`).
     /// Crash: the latest batches may be lost, each whole, up to those that are durable.
     pub fn write(&mut self, batch: WriteBatch, sync: bool) -> Result<()>
+        requires any { IsAnyValue self.old }
         ensures says { let codings = ⟦<CompressorList as Compressors>⟧.codings in
             Says E.Env (shown_by ⟦<InternalKeyCmp<C> as Cmp>⟧ E.Env C.Cmp FP.FilterPolicy codings)
             self.old.state self.old.env.now (headline.write (changes_of batch.items) sync)
@@ -204,6 +217,7 @@ impl<'e, E: Env, C: UserCmp + Copy, FP: FilterPolicy + Copy> Store<'e, E, Engine
     /// (`NotFlushed`).
     /// Crash: the latest batches may be lost, up to those that were durable before.
     pub fn flush(&mut self) -> Result<()>
+        requires any { IsAnyValue self.old }
         ensures says { let codings = ⟦<CompressorList as Compressors>⟧.codings in
             Says E.Env (shown_by ⟦<InternalKeyCmp<C> as Cmp>⟧ E.Env C.Cmp FP.FilterPolicy codings)
             self.old.state self.old.env.now headline.flush (DoneOr result)
@@ -229,6 +243,7 @@ impl<'e, E: Env, C: UserCmp + Copy, FP: FilterPolicy + Copy> Store<'e, E, Engine
     /// (`NotCompacted`). If it isn't, a part may be done, and the next call goes on from there.
     /// Crash: the latest batches may be lost, up to those that are durable.
     pub fn compact_range(&mut self, from: &[u8], to: &[u8]) -> Result<()>
+        requires any { IsAnyValue self.old }
         ensures says { let codings = ⟦<CompressorList as Compressors>⟧.codings in
             Says E.Env (shown_by ⟦<InternalKeyCmp<C> as Cmp>⟧ E.Env C.Cmp FP.FilterPolicy codings)
             self.old.state self.old.env.now headline.compact_range (DoneOr result)
@@ -256,6 +271,7 @@ impl<'e, E: Env, C: UserCmp + Copy, FP: FilterPolicy + Copy> Store<'e, E, Engine
     /// Err: nothing changes (`StaysAsItWas`).
     /// Crash: as without this call.
     pub fn get(&mut self, key: &[u8]) -> Result<Option<Bytes>>
+        requires any { IsAnyValue self.old }
         ensures says { let codings = ⟦<CompressorList as Compressors>⟧.codings in
             Says E.Env (shown_by ⟦<InternalKeyCmp<C> as Cmp>⟧ E.Env C.Cmp FP.FilterPolicy codings)
             self.old.state self.old.env.now (headline.get None key.now) (FoundOr result)
@@ -278,6 +294,7 @@ impl<'e, E: Env, C: UserCmp + Copy, FP: FilterPolicy + Copy> Store<'e, E, Engine
     /// Err: nothing changes (`StaysAsItWas`).
     /// Crash: as without this call.
     pub fn get_at(&mut self, snapshot: &Snapshot, key: &[u8]) -> Result<Option<Bytes>>
+        requires any { IsAnyValue self.old }
         ensures says { let codings = ⟦<CompressorList as Compressors>⟧.codings in
             Says E.Env (shown_by ⟦<InternalKeyCmp<C> as Cmp>⟧ E.Env C.Cmp FP.FilterPolicy codings)
             self.old.state self.old.env.now (headline.get (Some snapshot.now.number) key.now)
@@ -299,6 +316,7 @@ impl<'e, E: Env, C: UserCmp + Copy, FP: FilterPolicy + Copy> Store<'e, E, Engine
     /// Err: nothing changes (`StaysAsItWas`).
     /// Crash: as without this call; no snapshot is held after it.
     pub fn get_snapshot(&mut self) -> Result<Snapshot>
+        requires any { IsAnyValue self.old }
         ensures says { let codings = ⟦<CompressorList as Compressors>⟧.codings in
             Says E.Env (shown_by ⟦<InternalKeyCmp<C> as Cmp>⟧ E.Env C.Cmp FP.FilterPolicy codings)
             self.old.state self.old.env.now headline.get_snapshot (SnapshotOr result)
@@ -320,6 +338,7 @@ impl<'e, E: Env, C: UserCmp + Copy, FP: FilterPolicy + Copy> Store<'e, E, Engine
     /// Err: nothing changes (`StaysAsItWas`).
     /// Crash: as without this call; no snapshot is held after it.
     pub fn release_snapshot(&mut self, snapshot: Snapshot) -> Result<()>
+        requires any { IsAnyValue self.old }
         ensures says { let codings = ⟦<CompressorList as Compressors>⟧.codings in
             SaysReleased E.Env (shown_by ⟦<InternalKeyCmp<C> as Cmp>⟧ E.Env C.Cmp FP.FilterPolicy
             codings) self.old.state self.old.env.now snapshot result self.new.state
@@ -347,6 +366,7 @@ impl<'e, E: Env, C: UserCmp + Copy, FP: FilterPolicy + Copy> Store<'e, E, Engine
         moves: &[Move],
         steps: &mut Vec<Step>,
     ) -> Result<()>
+        requires any { IsAnyValue self.old }
         ensures says { let codings = ⟦<CompressorList as Compressors>⟧.codings in
             (given : List Step) × (steps.new.items ≡ steps.old.items ++ given)
             × Says E.Env (shown_by ⟦<InternalKeyCmp<C> as Cmp>⟧ E.Env C.Cmp FP.FilterPolicy codings)
@@ -373,6 +393,7 @@ impl<'e, E: Env, C: UserCmp + Copy, FP: FilterPolicy + Copy> Store<'e, E, Engine
     /// After it: once this was called, also in vain, no contract says what the store is or holds,
     /// nor what later calls on it do. Use `walk` where you need the store after an iterator.
     pub fn new_iter<'a>(&'a mut self) -> Result<DBIterator<'a, E, C, FP>>
+        requires any { IsAnyValue self.old }
         ensures says { let codings = ⟦<CompressorList as Compressors>⟧.codings in
             let walk = ⟦<StoreView<'a, C> as Walk<E, StoreTables<'a, E, C, FP>>>⟧ in
             let keys = ⟦<InternalKeyCmp<C> as Cmp>⟧ in
@@ -392,6 +413,7 @@ impl<'e, E: Env, C: UserCmp + Copy, FP: FilterPolicy + Copy> Store<'e, E, Engine
     /// A snapshot that isn't held is `InvalidArgument`. Its moves, and what is known of the store
     /// after it, are as of `new_iter`.
     pub fn new_iter_at<'a>(&'a mut self, snapshot: &Snapshot) -> Result<DBIterator<'a, E, C, FP>>
+        requires any { IsAnyValue self.old }
         ensures says { let codings = ⟦<CompressorList as Compressors>⟧.codings in
             let walk = ⟦<StoreView<'a, C> as Walk<E, StoreTables<'a, E, C, FP>>>⟧ in
             let keys = ⟦<InternalKeyCmp<C> as Cmp>⟧ in
@@ -416,6 +438,7 @@ impl<'e, E: Env, C: UserCmp + Copy, FP: FilterPolicy + Copy> Store<'e, E, Engine
     /// back (`NotClosed`).
     /// Crash: the latest batches may be lost, up to those that were durable before.
     pub fn close(&mut self) -> Result<()>
+        requires any { IsAnyValue self.old }
         ensures says { let codings = ⟦<CompressorList as Compressors>⟧.codings in
             Says E.Env (shown_by ⟦<InternalKeyCmp<C> as Cmp>⟧ E.Env C.Cmp FP.FilterPolicy codings)
             self.old.state self.old.env.now headline.close (DoneOr result)

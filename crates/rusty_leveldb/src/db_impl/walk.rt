@@ -7,6 +7,7 @@ ghost use Rattle.rusty_leveldb.specs.Engines.Calls.{EngineWalks};
 ghost use Rattle.rusty_leveldb.specs.Machines.Causes.{IsNotHeld};
 ghost use Rattle.rusty_leveldb.specs.Engines.Engine.{IsEngineSequence, held_in};
 ghost use Rattle.rusty_leveldb.specs.Engines.Serves.{snapshot_of};
+ghost use Rattle.rusty_leveldb.specs.Engines.AnyValue.{IsAnyValue};
 
 use super::engine::Engine;
 use leveldb_base::cmp::{Cmp, InternalKeyCmp, UserCmp};
@@ -29,6 +30,7 @@ impl<E: Env, C: UserCmp + Copy, FP: FilterPolicy + Copy> Engine<E, C, FP> {
         moves: &[Move],
         steps: &mut Vec<Step>,
     ) -> Result<()>
+        requires any { IsAnyValue self.old }
         ensures { let choices = choices_of C.Cmp FP.FilterPolicy
             ⟦<InternalKeyCmp<C> as Cmp>⟧ ⟦<InternalFilterPolicy<FP> as FilterPolicy>⟧
             ⟦<CompressorList as Compressors>⟧.codings in

@@ -10,6 +10,7 @@ ghost use Rattle.leveldb_store.specs.Writing.Due.{MovesLookedAt, is_compaction_d
 ghost use Rattle.leveldb_store.specs.Writing.Removal.{EndsByRemoval, but_removal};
 ghost use Rattle.rusty_leveldb.specs.Engines.Calls.{EngineFlushes, EngineWrites};
 ghost use Rattle.rusty_leveldb.specs.Engines.Room.{EngineMakesRoom, StoreMakesRoom};
+ghost use Rattle.rusty_leveldb.specs.Engines.AnyValue.{IsAnyValue};
 
 use super::engine::{Engine, keep_removal, mode_by};
 use crate::read_samples::ReadSamples;
@@ -28,6 +29,7 @@ use leveldb_version::table_cache::TableCache;
 impl<E: Env, C: UserCmp + Copy, FP: FilterPolicy + Copy> Engine<E, C, FP> {
     /// Sets the key to this value, without a sync. `DB::put` says what each result means.
     pub fn put(&mut self, env: &mut E, key: &[u8], value: &[u8]) -> Result<()>
+        requires any { IsAnyValue self.old }
         ensures { let choices = choices_of C.Cmp FP.FilterPolicy
             ⟦<InternalKeyCmp<C> as Cmp>⟧ ⟦<InternalFilterPolicy<FP> as FilterPolicy>⟧
             ⟦<CompressorList as Compressors>⟧.codings in
@@ -42,6 +44,7 @@ impl<E: Env, C: UserCmp + Copy, FP: FilterPolicy + Copy> Engine<E, C, FP> {
 
     /// Deletes the key, without a sync. `DB::delete` says what each result means.
     pub fn delete(&mut self, env: &mut E, key: &[u8]) -> Result<()>
+        requires any { IsAnyValue self.old }
         ensures { let choices = choices_of C.Cmp FP.FilterPolicy
             ⟦<InternalKeyCmp<C> as Cmp>⟧ ⟦<InternalFilterPolicy<FP> as FilterPolicy>⟧
             ⟦<CompressorList as Compressors>⟧.codings in
@@ -59,6 +62,7 @@ impl<E: Env, C: UserCmp + Copy, FP: FilterPolicy + Copy> Engine<E, C, FP> {
     /// the store asks then; where the memtable has room, the one is done that is due. An append or
     /// a sync of the log that fails breaks the engine. `DB::write` says what each result means.
     pub fn write(&mut self, env: &mut E, batch: WriteBatch, sync: bool) -> Result<()>
+        requires any { IsAnyValue self.old }
         ensures { let choices = choices_of C.Cmp FP.FilterPolicy
             ⟦<InternalKeyCmp<C> as Cmp>⟧ ⟦<InternalFilterPolicy<FP> as FilterPolicy>⟧
             ⟦<CompressorList as Compressors>⟧.codings in
@@ -104,6 +108,7 @@ impl<E: Env, C: UserCmp + Copy, FP: FilterPolicy + Copy> Engine<E, C, FP> {
 
     /// Makes all batches durable. `DB::flush` says what each result means.
     pub fn flush(&mut self, env: &mut E) -> Result<()>
+        requires any { IsAnyValue self.old }
         ensures { let choices = choices_of C.Cmp FP.FilterPolicy
             ⟦<InternalKeyCmp<C> as Cmp>⟧ ⟦<InternalFilterPolicy<FP> as FilterPolicy>⟧
             ⟦<CompressorList as Compressors>⟧.codings in
