@@ -69,6 +69,8 @@ mod rooms;
 #[cfg(test)]
 mod samples;
 #[cfg(test)]
+mod scans;
+#[cfg(test)]
 mod sinks;
 #[cfg(test)]
 mod slow_samples;

@@ -1,4 +1,4 @@
--- Iterators, their moves, and the samples of keys that they take.
+-- Iterators, their moves, and the samples of keys that they take; walks, and scans.
 pub mod WalkLemmas
 mod WalkingLemmas
 pub mod ChargesLemmas
@@ -10,3 +10,6 @@ pub mod IteratingLemmas
 pub mod ReaderIteratingLemmas
 pub mod ScanLemmas
 pub mod SaysLemmas
+pub mod ScanWalkLemmas
+pub mod StoreScanLemmas
+pub mod ScanSaysLemmas

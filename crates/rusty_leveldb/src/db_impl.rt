@@ -11,6 +11,7 @@ mod read;
 mod read_only;
 mod read_only_db;
 mod repairing;
+mod scan;
 mod snapshots;
 mod store;
 mod walk;

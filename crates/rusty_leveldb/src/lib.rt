@@ -5,6 +5,7 @@ pub mod db_impl;
 pub mod db_iter;
 pub mod promises;
 pub mod read_samples;
+pub mod scan;
 pub mod shell;
 
 pub use db_impl::{DB, DiskDB, MemDB, repair};
@@ -37,3 +38,4 @@ pub use leveldb_table::{
 };
 pub use leveldb_version::{table_cache, version, version_edit, version_iter};
 pub use leveldb_version_set::{compaction, laws as version_laws, version_set};
+pub use scan::Scan;

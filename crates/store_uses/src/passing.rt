@@ -1,16 +1,16 @@
-//! A program whose functions pass a store on: how many of each thing are in stock.
+//! A program whose functions pass a store, an engine and options on: how many of each thing are in
+//! stock.
 use leveldb_base::error::Result;
 use rusty_leveldb::db_impl::{Engine, Store};
-use rusty_leveldb::{BloomPolicy, DefaultCmp, MemDB, MemEnv, Options};
+use rusty_leveldb::{BloomPolicy, DefaultCmp, MemDB, MemEnv, Options, Scan};
 use std::alloc::Global;
 
 /// An engine over an environment in memory, whose memtables are small.
 pub fn open_stock(
     alloc: Global,
     env: &mut MemEnv,
-    options: Options<DefaultCmp, BloomPolicy>,
+    mut options: Options<DefaultCmp, BloomPolicy>,
 ) -> Result<Engine<MemEnv, DefaultCmp, BloomPolicy>> {
-    let mut options = options;
     limit_memory(&mut options);
     Engine::open(alloc, "stock", env, options)
 }
@@ -42,8 +42,20 @@ pub fn take_one(db: &mut MemDB<'_>, thing: &[u8]) -> Result<bool> {
     Ok(true)
 }
 
+/// Appends the things of the first page that come at or after this one, with their counts.
+pub fn page_from(
+    db: &mut MemDB<'_>,
+    thing: &[u8],
+    page: &mut Vec<(Vec<u8>, Vec<u8>)>,
+) -> Result<()> {
+    db.scan(None, Scan::From(thing), 20, page)
+}
+
 /// Makes all durable, and gives back the lock.
-pub fn end(engine: &mut Engine<MemEnv, DefaultCmp, BloomPolicy>, env: &mut MemEnv) -> Result<()> {
+pub fn end_stock(
+    engine: &mut Engine<MemEnv, DefaultCmp, BloomPolicy>,
+    env: &mut MemEnv,
+) -> Result<()> {
     engine.flush(env)?;
     engine.close(env)
 }
@@ -59,5 +71,11 @@ fn stock(rt: HostRuntime) -> Result<()> {
     set_count(&mut db, b"screw", 1)?;
     assert!(rt; take_one(&mut db, b"screw")? && !take_one(&mut db, b"screw")?);
     assert!(rt; take_one(&mut db, b"nail")? && count_of(&mut db, b"nail")? == 1);
-    db.close()
+    let mut page = Vec::new(alloc);
+    page_from(&mut db, b"o", &mut page)?;
+    assert!(rt; page.len() == 1 && page[0].0.as_slice() == b"screw".as_slice());
+    db.close()?;
+    db.abandon()?;
+    let mut engine = open_stock(alloc, &mut env, Options::default())?;
+    end_stock(&mut engine, &mut env)
 }

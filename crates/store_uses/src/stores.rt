@@ -1,7 +1,7 @@
 //! The calls of a store.
 use leveldb_base::error::Result;
 use rusty_leveldb::db_impl::open_read_only;
-use rusty_leveldb::{DB, MemEnv, Move, Options, repair};
+use rusty_leveldb::{DB, MemEnv, Move, Options, Scan, repair};
 
 #[test]
 fn snapshots(rt: HostRuntime) -> Result<()> {
@@ -58,6 +58,9 @@ fn reading_alone(rt: HostRuntime) -> Result<()> {
     let mut steps = Vec::new(alloc);
     store.walk(&[Move::First], &mut steps)?;
     assert!(rt; steps.len() == 1);
+    let mut pairs = Vec::new(alloc);
+    store.scan(Scan::Last, 2, &mut pairs)?;
+    assert!(rt; pairs.len() == 1);
     let mut it = store.new_iter()?;
     assert!(rt; it.advance()?);
     Ok(())

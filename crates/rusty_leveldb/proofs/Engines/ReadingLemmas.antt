@@ -36,7 +36,7 @@ use Rattle.rusty_leveldb.proofs.Engines.Moments.{moments_none}
 use Rattle.rusty_leveldb.proofs.Engines.Others.{spares_same, spares_still}
 
 -- a store that isn't closed responds in either mode
-responds_in : (mode : machine.Mode) (setting : Setting) (old : State) (snapshot : Option Snapshot)
+pub responds_in : (mode : machine.Mode) (setting : Setting) (old : State) (snapshot : Option Snapshot)
     (key : List ℕ) (answer : Answer) → (mode ≡ machine.closed → ⊥)
     → Responds setting old (get snapshot key) answer old
     → Step mode setting old (get snapshot key) answer old

@@ -94,7 +94,7 @@ module _ {E F C FP K V : Type 0} {keys : InternalOrder C} {env : Ghosts E F} {cm
 -- ---- calls that make one
 
 -- a store is closed if its state is
-is_closed_state : (mode : Mode) → store_mode_of mode ≡ is_closed → mode ≡ closed
+pub is_closed_state : (mode : Mode) → store_mode_of mode ≡ is_closed → mode ≡ closed
 is_closed_state closed is = refl
 is_closed_state open_mode is = absurd (cc)
 is_closed_state broken is = absurd (cc)

@@ -1,14 +1,19 @@
 //! An engine that only reads: it opens a store without a lock, and changes no file of it.
-ghost use Rattle.std.specs.Prelude.{◌≡◌, ◌++◌, List, IfOk};
+ghost use Rattle.std.specs.Prelude.{◌≡◌, ◌++◌, ℕ, List, IfOk, map};
+ghost use Rattle.std.specs.Global.{Vec};
 ghost use Rattle.leveldb_files.specs.Stores.Format.{format_of};
 ghost use Rattle.rusty_leveldb.specs.Engines.Engine.{opening_of};
 ghost use Rattle.rusty_leveldb.specs.Openings.ReadAlone.{ReaderGets, ReaderIterates, ReaderOpens, ReaderWalks};
 ghost use Rattle.rusty_leveldb.specs.Engines.AnyValue.{IsAnyValue};
+ghost use Rattle.rusty_leveldb.specs.Walks.Scan.{bytes_of_copy};
+ghost use Rattle.rusty_leveldb.specs.Walks.StoreScan.{ReaderScans};
 
 use super::iterate::iter_over;
 use super::names::check_name;
+use super::scan::scan_store;
 use crate::db_iter::{DBIterator, StoreTables};
 use crate::read_samples::ReadSamples;
+use crate::scan::Scan;
 use bytes::Bytes;
 use leveldb_base::cmp::{Cmp, InternalKeyCmp, UserCmp};
 use leveldb_base::error::Result;
@@ -128,6 +133,42 @@ impl<E: Env, C: UserCmp + Copy, FP: FilterPolicy + Copy> ReadOnlyEngine<E, C, FP
         self.options.cmp = self.store.cmp();
         self.store
             .walk(env, &self.options, &mut self.tables, last, moves, steps)
+    }
+
+    /// Appends to `pairs` copies of the first `count` pairs of a scan over the store. After an error
+    /// `pairs` is as it was. A key of more than 2^30 bytes is `InvalidArgument`.
+    pub fn scan(
+        &mut self,
+        env: &mut E,
+        scan: Scan<'_>,
+        count: usize,
+        pairs: &mut Vec<(Vec<u8>, Vec<u8>)>,
+    ) -> Result<()>
+        requires any { IsAnyValue self.old }
+        ensures { let codings = ⟦<CompressorList as Compressors>⟧.codings in
+            (given : List (Vec ℕ × Vec ℕ)) × (pairs.new.items ≡ pairs.old.items ++ given)
+            × ReaderScans ⟦<InternalKeyCmp<C> as Cmp>⟧ E.Env
+            (format_of C.Cmp FP.FilterPolicy codings) self.old env.old scan.entry count
+            (map bytes_of_copy given) result self.new env.new }
+    {
+        scan.check_key(self.alloc)?;
+        let alloc = self.alloc;
+        let last = self.store.last_sequence();
+        let options = &self.options;
+        let policy = options.filter_policy;
+        let compressors = &options.compressor_list;
+        scan_store(
+            alloc,
+            &self.store,
+            env,
+            &mut self.tables,
+            policy,
+            compressors,
+            last,
+            scan,
+            count,
+            pairs,
+        )
     }
 
     /// An iterator over the store, at no position.

@@ -1,15 +1,19 @@
 //! The public store that is read alone: an engine that only reads, beside a borrow of its
 //! environment, which each call gives to it.
-ghost use Rattle.std.specs.Prelude.{◌≡◌, ◌++◌, List, IfOk};
+ghost use Rattle.std.specs.Prelude.{◌≡◌, ◌++◌, ℕ, List, IfOk, map};
+ghost use Rattle.std.specs.Global.{Vec};
 ghost use Rattle.leveldb_files.specs.Stores.Format.{format_of};
 ghost use Rattle.rusty_leveldb.specs.Engines.Calls.{result_map};
 ghost use Rattle.rusty_leveldb.specs.Engines.Engine.{opening_of};
 ghost use Rattle.rusty_leveldb.specs.Openings.ReadAlone.{ReaderGets, ReaderIterates, ReaderOpens, ReaderWalks};
 ghost use Rattle.rusty_leveldb.specs.Engines.AnyValue.{IsAnyValue};
+ghost use Rattle.rusty_leveldb.specs.Walks.Scan.{bytes_of_copy};
+ghost use Rattle.rusty_leveldb.specs.Walks.StoreScan.{ReaderScans};
 
 use super::read_only::ReadOnlyEngine;
 use super::store::Store;
 use crate::db_iter::{DBIterator, StoreTables};
+use crate::scan::Scan;
 use bytes::Bytes;
 use leveldb_base::cmp::{Cmp, InternalKeyCmp, UserCmp};
 use leveldb_base::error::Result;
@@ -93,6 +97,28 @@ impl<'e, E: Env, C: UserCmp + Copy, FP: FilterPolicy + Copy> Store<
             given result self.new.state self.new.env.now }
     {
         self.state.walk(&mut *self.env, moves, steps)
+    }
+
+    /// Appends to `pairs` copies of the first `count` pairs of a scan over the store. A key of more
+    /// than 2^30 bytes is `InvalidArgument`.
+    ///
+    /// Ok: they are the first of the scan, of all pairs of the history's sorted map; fewer than
+    /// `count` if no more are there. Err: `pairs` is as it was, and nothing changes.
+    pub fn scan(
+        &mut self,
+        scan: Scan<'_>,
+        count: usize,
+        pairs: &mut Vec<(Vec<u8>, Vec<u8>)>,
+    ) -> Result<()>
+        requires any { IsAnyValue self.old }
+        ensures same_reference { self.new.env.ghost_name ≡ self.old.env.ghost_name }
+        ensures scans { let codings = ⟦<CompressorList as Compressors>⟧.codings in
+            (given : List (Vec ℕ × Vec ℕ)) × (pairs.new.items ≡ pairs.old.items ++ given)
+            × ReaderScans ⟦<InternalKeyCmp<C> as Cmp>⟧ E.Env
+            (format_of C.Cmp FP.FilterPolicy codings) self.old.state self.old.env.now scan.entry
+            count (map bytes_of_copy given) result self.new.state self.new.env.now }
+    {
+        self.state.scan(&mut *self.env, scan, count, pairs)
     }
 
     /// Returns an iterator over the store, at no position. It borrows the store: until it ends
