@@ -7,5 +7,6 @@ mod engines;
 #[cfg(test)]
 mod example;
 pub mod passing;
+pub mod says;
 #[cfg(test)]
 mod stores;
