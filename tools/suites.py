@@ -69,6 +69,17 @@ def with_below(names):
     return found
 
 
+def crate_with_below(name):
+    """Returns a crate of crates.txt, whose name may be a suite's too, with all that it uses of the repository."""
+    uses, found, waiting = crates(), {}, [name]
+    while waiting:
+        name = waiting.pop()
+        if name in uses and name not in found:
+            found[name] = uses[name]
+            waiting += uses[name]
+    return found
+
+
 def put_crate(name, folder):
     """Puts one crate of the repository into the folder."""
     for part in ("src", "specs"):
@@ -118,6 +129,14 @@ def assemble(folder, names, with_long=False):
     if joined:
         join(joined, folder, with_long)
         uses[JOINED] = sorted({it for name in joined for it in uses.pop(name)})
+    list_crates(folder, uses)
+
+
+def assemble_crate(folder, name):
+    """Puts a crate of crates.txt, with all that it uses, into a folder that has none of them."""
+    uses = crate_with_below(name)
+    for it in uses:
+        put_crate(it, folder)
     list_crates(folder, uses)
 
 
