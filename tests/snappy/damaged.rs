@@ -1,7 +1,8 @@
 //! Bytes at random and changed ones, beside the slow program.
-use super::texts::{encoded, half_text, is_read_as_slowly, random_text};
+use super::texts::{encoded, half_text, random_text, read_as_slowly};
 use leveldb_base::error::Result;
 use std::alloc::Global;
+use std::process::Abort;
 use support::Random;
 
 // A length, and elements at random: tags that are likely to fit, and small offsets.
@@ -47,8 +48,8 @@ fn change(random: &mut Random, stored: &mut Vec<u8>) {
     }
 }
 
-/// Some bytes: at random, of elements that are likely to fit, or of a text that is stored, changed.
-pub fn bytes_to_read(alloc: Global, random: &mut Random) -> Result<Vec<u8>> {
+// Some bytes: at random, of elements that are likely to fit, or of a text that is stored, changed.
+fn bytes_to_read(alloc: Global, random: &mut Random) -> Result<Vec<u8>> {
     match random.below(3) {
         0 => {
             let length = random.below(24) as usize;
@@ -66,15 +67,30 @@ pub fn bytes_to_read(alloc: Global, random: &mut Random) -> Result<Vec<u8>> {
     }
 }
 
+/// Reads so many bytes at random and changed ones as the slow program does. Returns how many of
+/// them are texts.
+pub fn read_beside_the_slow_program(
+    rt: &impl Abort,
+    alloc: Global,
+    seed: u64,
+    count: u32,
+) -> Result<u32> {
+    let mut random = Random(seed);
+    let mut texts = 0u32;
+    for round in 0..count {
+        let bytes = bytes_to_read(alloc, &mut random)?;
+        let is_text = read_as_slowly(alloc, &bytes)?;
+        assert!(rt; is_text.is_some(), "{round}: {bytes:?}");
+        if is_text == Some(true) {
+            texts += 1;
+        }
+    }
+    Ok(texts)
+}
+
 #[test]
 fn beside_the_slow_program(rt: HostRuntime) -> Result<()> {
-    let mut random = Random(7);
-    for round in 0..20_000u32 {
-        let bytes = bytes_to_read(rt.alloc(), &mut random)?;
-        assert!(rt;
-            is_read_as_slowly(rt.alloc(), &bytes)?,
-            "{round}: {bytes:?}"
-        );
-    }
+    let texts = read_beside_the_slow_program(&rt, rt.alloc(), 7, 20_000)?;
+    assert!(rt; (1000..19_000).contains(&texts), "{texts}");
     Ok(())
 }

@@ -66,13 +66,14 @@ fn code_of_none(bytes: &[u8]) -> StatusCode {
     }
 }
 
-/// Whether bytes are read as the slow program reads them.
-pub fn is_read_as_slowly(alloc: Global, bytes: &[u8]) -> Result<bool> {
+/// Whether bytes are read as a text, where the slow program reads them so, too; none where it reads
+/// them otherwise.
+pub fn read_as_slowly(alloc: Global, bytes: &[u8]) -> Result<Option<bool>> {
     let slow = slow_decoded(alloc, bytes)?;
     let read = answered(Snappy.decode(alloc, bytes.to_vec(alloc)?))?;
     Ok(match (read, slow) {
-        (Ok(read), Some(slow)) => read.as_slice() == slow.as_slice(),
-        (Err(status), None) => status.code == code_of_none(bytes),
-        _ => false,
+        (Ok(read), Some(slow)) if read.as_slice() == slow.as_slice() => Some(true),
+        (Err(status), None) if status.code == code_of_none(bytes) => Some(false),
+        _ => None,
     })
 }
