@@ -1,5 +1,6 @@
 //! Files that are made for a test, and what is printed of them.
 use leveldb_base::error::Result;
+use leveldb_env::compressor::CompressorList;
 use leveldb_env::env::Env;
 use leveldb_env::env::whole_files::write_file;
 use leveldb_env::mem_env::MemEnv;
@@ -16,15 +17,32 @@ pub struct Printed {
     pub status: u8,
 }
 
+impl Printed {
+    /// Whether this text was printed, with this status, and nothing else.
+    pub fn is(&self, text: &[u8], status: u8) -> bool {
+        self.out.as_slice() == text && self.err.is_empty() && self.status == status
+    }
+}
+
 /// Runs the program with these words.
 pub fn run<E: Env>(alloc: Global, env: &mut E, words: &[&str]) -> Result<Printed> {
+    run_with(alloc, env, &CompressorList::default(), words)
+}
+
+/// Runs the program with these compressors and words.
+pub fn run_with<E: Env>(
+    alloc: Global,
+    env: &mut E,
+    compressors: &CompressorList,
+    words: &[&str],
+) -> Result<Printed> {
     let mut owned = Vec::new(alloc);
     for word in words {
         owned.push(String::from_str(alloc, word)?)?;
     }
     let mut out = Vec::new(alloc);
     let mut err = Vec::new(alloc);
-    let status = util_main(alloc, env, &owned, &mut out, &mut err);
+    let status = util_main(alloc, env, compressors, &owned, &mut out, &mut err);
     Ok(Printed { out, err, status })
 }
 
@@ -36,8 +54,7 @@ pub fn prints<E: Env>(
     text: &[u8],
     status: u8,
 ) -> Result<bool> {
-    let printed = run(alloc, env, words)?;
-    Ok(printed.out.as_slice() == text && printed.err.is_empty() && printed.status == status)
+    Ok(run(alloc, env, words)?.is(text, status))
 }
 
 /// Puts a file into an environment.

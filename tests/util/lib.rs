@@ -3,6 +3,8 @@
 #[cfg(test)]
 mod checked;
 #[cfg(test)]
+mod compressed;
+#[cfg(test)]
 mod damaged;
 #[cfg(test)]
 mod files;

@@ -2,6 +2,7 @@
 use super::files::{run, with_file};
 use super::theirs::LOG;
 use leveldb_base::error::{Result, StatusCode, err};
+use leveldb_env::compressor::CompressorList;
 use leveldb_env::env::Sink;
 use leveldb_inspect::util_main;
 use std::alloc::Global;
@@ -55,7 +56,8 @@ fn an_output_that_fails(rt: HostRuntime) -> Result<()> {
     }
     let mut err = Vec::new(rt.alloc());
     let mut out = Full(rt.alloc());
-    let status = util_main(rt.alloc(), &mut env, &words, &mut out, &mut err);
+    let list = CompressorList::default();
+    let status = util_main(rt.alloc(), &mut env, &list, &words, &mut out, &mut err);
     assert!(rt; status == 1 && err.as_slice() == b"leveldbutil: IOError: full\n".as_slice());
     let Full(_) = out;
     Ok(())

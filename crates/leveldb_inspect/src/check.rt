@@ -13,16 +13,19 @@ use crate::tables::{Shown, print_table};
 use leveldb_base::error::Result;
 use leveldb_base::names::{log_file_name, table_file_name};
 use leveldb_base::types::{FileMetaData, FileNum};
+use leveldb_env::compressor::CompressorList;
 use leveldb_env::env::{Env, Sink};
 use std::alloc::Global;
 use std::collections::BTreeSet;
 
 /// Reads all that an opening of the store in a folder may read: `CURRENT`, each record of the
-/// manifest and of the live logs, and each block of the live tables. What is wrong is a line each,
-/// and so is a bad end of a log or manifest that a crash may leave, which isn't wrong.
+/// manifest and of the live logs, and each block of the live tables, by these compressors. What is
+/// wrong is a line each, and so is a bad end of a log or manifest that a crash may leave, which
+/// isn't wrong.
 pub fn check_store<E: Env, O: Sink>(
     alloc: Global,
     env: &mut E,
+    compressors: &CompressorList,
     lines: &mut Lines<O>,
     store: &str,
 ) -> Result<()>
@@ -32,7 +35,7 @@ pub fn check_store<E: Env, O: Sink>(
     let Some(live) = read_live(alloc, env, lines, store)? else {
         return Ok(());
     };
-    check_tables(alloc, env, lines, store, &live)?;
+    check_tables(alloc, env, compressors, lines, store, &live)?;
     match live_logs(alloc, env, store, &live) {
         Ok(logs) => check_logs(alloc, env, lines, store, &logs),
         Err(status) => lines.failure(store, &status),
@@ -43,6 +46,7 @@ pub fn check_store<E: Env, O: Sink>(
 fn check_tables<E: Env, O: Sink>(
     alloc: Global,
     env: &mut E,
+    compressors: &CompressorList,
     lines: &mut Lines<O>,
     store: &str,
     live: &Live,
@@ -51,7 +55,7 @@ fn check_tables<E: Env, O: Sink>(
     ensures cause { IfErr result (IsOutputError O.Sink) }
 {
     for table in &live.tables {
-        check_table(alloc, env, lines, store, table.1)?;
+        check_table(alloc, env, compressors, lines, store, table.1)?;
     }
     Ok(())
 }
@@ -60,6 +64,7 @@ fn check_tables<E: Env, O: Sink>(
 fn check_table<E: Env, O: Sink>(
     alloc: Global,
     env: &mut E,
+    compressors: &CompressorList,
     lines: &mut Lines<O>,
     store: &str,
     file: &FileMetaData,
@@ -73,7 +78,7 @@ fn check_table<E: Env, O: Sink>(
             wrong_size(lines, &path, size, file.size)?;
         }
     }
-    print_table(alloc, env, lines, &path, Shown::Nothing)
+    print_table(alloc, env, compressors, lines, &path, Shown::Nothing)
 }
 
 // The path of a table, which an old LevelDB has ended in `.sst`.

@@ -14,6 +14,7 @@ use crate::tables::{Shown, print_table};
 use leveldb_base::error::Result;
 use leveldb_base::names::file_name_parts;
 use leveldb_base::types::FileType;
+use leveldb_env::compressor::CompressorList;
 use leveldb_env::env::{Env, Sink};
 use leveldb_version_set::version_set::parse_current_text;
 use std::alloc::Global;
@@ -22,11 +23,13 @@ use std::alloc::Global;
 const CURRENT_SIZE: usize = 256;
 
 /// Prints what a file of a store holds: a log, a manifest, a table or `CURRENT`, as its name says.
-/// Where it is damaged, that is a line, and what can be read after it is printed, too. With
-/// `shows_blocks` the parts of a table are lines of their own.
+/// Where it is damaged, that is a line, and what can be read after it is printed, too. So is a
+/// block of a table that none of the compressors decodes. With `shows_blocks` the parts of a table
+/// are lines of their own.
 pub fn dump_file<E: Env, O: Sink>(
     alloc: Global,
     env: &mut E,
+    compressors: &CompressorList,
     lines: &mut Lines<O>,
     name: &str,
     shows_blocks: bool,
@@ -44,9 +47,9 @@ pub fn dump_file<E: Env, O: Sink>(
             read_log(alloc, env, name, &mut Edits { alloc, report })
         }
         Some(FileType::Table) if shows_blocks => {
-            print_table(alloc, env, lines, name, Shown::Blocks)
+            print_table(alloc, env, compressors, lines, name, Shown::Blocks)
         }
-        Some(FileType::Table) => print_table(alloc, env, lines, name, Shown::Pairs),
+        Some(FileType::Table) => { print_table(alloc, env, compressors, lines, name, Shown::Pairs) }
         Some(FileType::Current) => print_current(alloc, env, lines, name),
         _ => lines.fault(
             name,

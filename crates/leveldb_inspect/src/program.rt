@@ -9,6 +9,7 @@ use crate::dump::dump_file;
 use crate::lines::{Lines, Style};
 use crate::stat::print_store;
 use leveldb_base::error::{Result, Status};
+use leveldb_env::compressor::CompressorList;
 use leveldb_env::env::{Env, Sink};
 use std::alloc::Global;
 use std::io::Write;
@@ -30,12 +31,13 @@ enum Call {
 }
 
 /// Does what the words ask for: `dump` with files, `stat` or `check` with one folder, and flags
-/// after that word. What is found is lines for `out`; a fault of the program is a line of `err`.
-/// The status is 0 if nothing was wrong with the files, 1 if something was or the call failed,
-/// and 2 if the words ask for nothing.
+/// after that word. Blocks of tables are decoded by these compressors. What is found is lines for
+/// `out`; a fault of the program is a line of `err`. The status is 0 if nothing was wrong with the
+/// files, 1 if something was or the call failed, and 2 if the words ask for nothing.
 pub fn util_main<E: Env, O: Sink, F: Write>(
     alloc: Global,
     env: &mut E,
+    compressors: &CompressorList,
     words: &[String],
     out: &mut O,
     err: &mut F,
@@ -53,7 +55,7 @@ pub fn util_main<E: Env, O: Sink, F: Write>(
         return 2;
     };
     let mut lines = Lines::new(alloc, out, task.style);
-    let done = run(alloc, env, &mut lines, &task);
+    let done = run(alloc, env, compressors, &mut lines, &task);
     let has_faults = lines.has_faults();
     match done.and(lines.flush()) {
         Ok(()) => u8::from(has_faults),
@@ -121,6 +123,7 @@ fn is_count_of(call: Call, count: usize) -> bool {
 fn run<E: Env, O: Sink>(
     alloc: Global,
     env: &mut E,
+    compressors: &CompressorList,
     lines: &mut Lines<O>,
     task: &Task<'_>,
 ) -> Result<()>
@@ -129,9 +132,9 @@ fn run<E: Env, O: Sink>(
 {
     for name in task.names {
         match task.call {
-            Call::Dump => dump_file(alloc, env, lines, name, task.shows_blocks)?,
+            Call::Dump => dump_file(alloc, env, compressors, lines, name, task.shows_blocks)?,
             Call::Stat => print_store(alloc, env, lines, name)?,
-            Call::Check => check_store(alloc, env, lines, name)?,
+            Call::Check => check_store(alloc, env, compressors, lines, name)?,
         }
     }
     Ok(())

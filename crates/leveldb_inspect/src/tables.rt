@@ -1,6 +1,6 @@
 //! The tables of a store as text.
 // LevelDB: db/dumpfile.cc, DumpTable
-ghost use Rattle.std.specs.Prelude.{IfErr};
+ghost use Rattle.std.specs.Prelude.{◌≡◌, None, IfErr, IfSome};
 ghost use Rattle.leveldb_table.specs.TableBlock.{KeepsDisk};
 ghost use Rattle.leveldb_inspect.specs.Inspect.{IsOutputError};
 
@@ -9,9 +9,9 @@ use crate::lines::Lines;
 use crate::records::read_full;
 use leveldb_base::blockhandle::BlockHandle;
 use leveldb_base::cmp::{Cmp, DefaultCmp, InternalKeyCmp};
-use leveldb_base::error::{Result, StatusCode, err};
+use leveldb_base::error::{Result, Status, StatusCode, err};
 use leveldb_base::types::LdbIterator;
-use leveldb_env::compressor::CompressorList;
+use leveldb_env::compressor::{CompressorList, Compressors};
 use leveldb_env::env::{Env, Sink};
 use leveldb_env::filter::NoFilterPolicy;
 use leveldb_table::block::Block;
@@ -41,10 +41,12 @@ struct TableFile<'a, E: Env> {
     shown: Shown,
 }
 
-/// Prints a table, a block at a time. After a block that is damaged it goes on with the next.
+/// Prints a table, a block at a time. After a block that is damaged, or that none of the
+/// compressors decodes, it goes on with the next.
 pub(crate) fn print_table<E: Env, O: Sink>(
     alloc: Global,
     env: &mut E,
+    compressors: &CompressorList,
     lines: &mut Lines<O>,
     name: &str,
     shown: Shown,
@@ -52,8 +54,7 @@ pub(crate) fn print_table<E: Env, O: Sink>(
     ensures keeps { KeepsDisk E.Env env.old env.new }
     ensures cause { IfErr result (IsOutputError O.Sink) }
 {
-    let compressors = CompressorList::default();
-    let table = match open(alloc, env, name, &compressors, shown) {
+    let table = match open(alloc, env, compressors, name, shown) {
         Ok(table) => table,
         Err(status) => return lines.failure(name, &status),
     };
@@ -68,8 +69,8 @@ pub(crate) fn print_table<E: Env, O: Sink>(
 fn open<'a, E: Env>(
     alloc: Global,
     env: &mut E,
-    name: &'a str,
     compressors: &'a CompressorList,
+    name: &'a str,
     shown: Shown,
 ) -> Result<TableFile<'a, E>>
     ensures keeps { KeepsDisk E.Env env.old env.new }
@@ -144,7 +145,7 @@ impl<E: Env> TableFile<'_, E> {
         let handle = self.footer.meta_index;
         let metas = match self.read_block(env, DefaultCmp, handle) {
             Ok(block) => block,
-            Err(status) => return lines.failure(self.name, &status),
+            Err(status) => return self.print_unread(env, lines, handle, &status),
         };
         let mut walk = metas.iter(self.alloc);
         for _ in 0..u64::MAX {
@@ -207,9 +208,10 @@ impl<E: Env> TableFile<'_, E> {
         ensures keeps { KeepsDisk E.Env env.old env.new }
         ensures cause { IfErr result (IsOutputError O.Sink) }
     {
-        let index = match self.read_block(env, InternalKeyCmp(DefaultCmp), self.footer.index) {
+        let handle = self.footer.index;
+        let index = match self.read_block(env, InternalKeyCmp(DefaultCmp), handle) {
             Ok(block) => block,
-            Err(status) => return lines.failure(self.name, &status),
+            Err(status) => return self.print_unread(env, lines, handle, &status),
         };
         let mut walk = index.iter(self.alloc);
         for _ in 0..u64::MAX {
@@ -235,7 +237,40 @@ impl<E: Env> TableFile<'_, E> {
         self.print_handle(lines, "block", handle)?;
         match self.read_block(env, InternalKeyCmp(DefaultCmp), handle) {
             Ok(block) => self.print_pairs(lines, &block),
-            Err(status) => lines.failure(self.name, &status),
+            Err(status) => self.print_unread(env, lines, handle, &status),
+        }
+    }
+
+    // Prints why the block at a handle wasn't read.
+    fn print_unread<O: Sink>(
+        &self,
+        env: &mut E,
+        lines: &mut Lines<O>,
+        handle: BlockHandle,
+        status: &Status,
+    ) -> Result<()>
+        ensures keeps { KeepsDisk E.Env env.old env.new }
+        ensures cause { IfErr result (IsOutputError O.Sink) }
+    {
+        if status.code == StatusCode::NotSupported {
+            if let Some(id) = self.unset_id(env, handle) {
+                return print_unset(lines, self.name, id);
+            }
+        }
+        lines.failure(self.name, status)
+    }
+
+    // The id under which the block at a handle is stored, where it has no compressor.
+    fn unset_id(&self, env: &mut E, handle: BlockHandle) -> Option<u8>
+        ensures keeps { KeepsDisk E.Env env.old env.new }
+        ensures unset { IfSome result (λ id.
+            ⟦<CompressorList as Compressors>⟧.codings self.now.compressors.now id ≡ None) }
+    {
+        let after = handle.offset().checked_add(handle.size())?.checked_add(1)?;
+        let mut id = [0];
+        match read_full(env, &self.file, after - 1, &mut id) {
+            Ok(1) if !self.compressors.is_set(id[0]) => Some(id[0]),
+            _ => None,
         }
     }
 
@@ -274,6 +309,23 @@ impl<E: Env> TableFile<'_, E> {
         }
         Ok(())
     }
+}
+
+// Prints that a block of this file is stored under an id that has no compressor.
+fn print_unset<O: Sink>(lines: &mut Lines<O>, name: &str, id: u8) -> Result<()>
+    ensures cause { IfErr result (IsOutputError O.Sink) }
+{
+    lines.begin_fault(name)?;
+    lines.text("a block is compressed by ")?;
+    lines.text(match id {
+        1 => "Snappy",
+        2 => "Zstandard",
+        _ => "another compressor",
+    })?;
+    lines.text(" (id ")?;
+    lines.number(u64::from(id))?;
+    lines.text("), which this program doesn't have")?;
+    lines.end()
 }
 
 // Prints a pair as `'key' @ 7 : val => 'value'`.

@@ -4,8 +4,10 @@
 
 use leveldb_base::error::Result;
 use leveldb_disks::disk_env::{PosixDiskEnv, reserve_descriptors};
+use leveldb_env::compressor::CompressorList;
 use leveldb_env::env::Sink;
 use leveldb_inspect::util_main;
+use leveldb_snappy::Snappy;
 use std::io::Write;
 use std::process::ExitCode;
 use std::{env, io};
@@ -34,11 +36,18 @@ fn main(rt: HostRuntime) -> io::Result<ExitCode> {
         eprintln!(rt; "leveldbutil: {}", status.code)?;
         return Ok(ExitCode::from(1));
     }
+    let mut compressors = CompressorList::default();
+    let snappy = Box::new(rt.alloc(), Snappy)?;
+    if let Err(status) = compressors.set::<Snappy>(rt.alloc(), snappy) {
+        eprintln!(rt; "leveldbutil: {}", status.code)?;
+        return Ok(ExitCode::from(1));
+    }
     let words: Vec<String> = env::args(&rt)?.skip(1).collect(rt.alloc())?;
     let mut files = PosixDiskEnv::new(&rt);
     let status = util_main(
         rt.alloc(),
         &mut files,
+        &compressors,
         &words,
         &mut Output(rt.stdout()),
         &mut rt.stderr(),
