@@ -2,6 +2,7 @@
 //! runs it.
 #![tactic(auto)]
 
+mod commands;
 mod stores;
 
 use leveldb_base::error::Result;
@@ -63,6 +64,8 @@ fn run<E: Env>(
         "change" => change(env, rt.alloc(), name)?,
         "write" => stores::write_on(rt, env, name)?,
         "store" => stores::open_six_times(rt, env, name)?,
+        "commands" => commands::run_commands(rt, env, name)?,
+        "repair" => commands::repair_store(rt.alloc(), env, name)?,
         _ => return Ok(false),
     }
     Ok(true)
@@ -75,7 +78,7 @@ fn trial<E: Env>(
     words: &[String],
 ) -> io::Result<u8> {
     let [call, name] = words else {
-        rt.println("usage: disk_trials lock|append|change|write|store NAME")?;
+        rt.println("usage: disk_trials lock|append|change|write|store|commands|repair NAME")?;
         return Ok(2);
     };
     match run(rt, env, call.as_str(), name.as_str()) {
