@@ -1,5 +1,6 @@
 //! `snappy_trials encode`, `decode` and `time ROUNDS`: stores texts in Snappy's format, reads them
-//! again, and says how long that takes. tools/snappytrials/run runs it beside C++ Snappy.
+//! again, and says how much processor time that takes. tools/snappytrials/run runs it beside C++
+//! Snappy.
 //!
 //! The input is records, each a length of four bytes and so many bytes. The output of `encode` is
 //! such records, and that of `decode` is a byte before each record, 1, or 0 where bytes make no
@@ -12,7 +13,7 @@ use leveldb_snappy::Snappy;
 use std::alloc::Global;
 use std::io::{Read, Write};
 use std::process::ExitCode;
-use std::time::{Clock, Instant};
+use std::time::CpuClock;
 use std::{env, io};
 
 /// The record at the front, and what follows it.
@@ -81,8 +82,9 @@ fn texts(alloc: Global, input: &[u8]) -> Result<Vec<Vec<u8>>> {
     Ok(texts)
 }
 
-fn nanos_since<K: Clock>(clock: &K, start: Instant) -> Result<u64> {
-    let time = start.elapsed(clock)?;
+/// The nanoseconds that a processor has run the program.
+fn nanos<K: CpuClock>(clock: &K) -> Result<u64> {
+    let time = clock.process_cpu_time()?;
     Ok(
         time.as_secs()
             .saturating_mul(1_000_000_000)
@@ -91,28 +93,32 @@ fn nanos_since<K: Clock>(clock: &K, start: Instant) -> Result<u64> {
 }
 
 /// The nanoseconds in which texts are stored, and how many bytes they take.
-fn time_encode<K: Clock>(alloc: Global, clock: &K, texts: Vec<Vec<u8>>) -> Result<(u64, usize)> {
+fn time_encode<K: CpuClock>(alloc: Global, clock: &K, texts: Vec<Vec<u8>>) -> Result<(u64, usize)> {
     let mut bytes = 0usize;
-    let start = Instant::now(clock)?;
+    let start = nanos(clock)?;
     for text in texts {
         bytes = bytes.wrapping_add(Snappy.encode(alloc, text)?.len());
     }
-    Ok((nanos_since(clock, start)?, bytes))
+    Ok((nanos(clock)?.saturating_sub(start), bytes))
 }
 
 /// The nanoseconds in which texts are read, and how many bytes they have.
-fn time_decode<K: Clock>(alloc: Global, clock: &K, stored: Vec<Vec<u8>>) -> Result<(u64, usize)> {
+fn time_decode<K: CpuClock>(
+    alloc: Global,
+    clock: &K,
+    stored: Vec<Vec<u8>>,
+) -> Result<(u64, usize)> {
     let mut bytes = 0usize;
-    let start = Instant::now(clock)?;
+    let start = nanos(clock)?;
     for stored in stored {
         bytes = bytes.wrapping_add(Snappy.decode(alloc, stored)?.len());
     }
-    Ok((nanos_since(clock, start)?, bytes))
+    Ok((nanos(clock)?.saturating_sub(start), bytes))
 }
 
-/// Prints a line for each round: the nanoseconds of storing and reading all texts, and how many
-/// bytes these are, stored and read.
-fn time(rt: &(impl Print + Clock), alloc: Global, input: &[u8], rounds: u64) -> Result<()> {
+/// Prints a line for each round: the nanoseconds of a processor in storing and reading all texts,
+/// and how many bytes these are, stored and read.
+fn time(rt: &(impl Print + CpuClock), alloc: Global, input: &[u8], rounds: u64) -> Result<()> {
     let stored = encode(alloc, input)?;
     for _ in 0..rounds {
         let (encoding, short) = time_encode(alloc, rt, texts(alloc, input)?)?;

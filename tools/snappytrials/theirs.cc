@@ -1,8 +1,8 @@
 // What tests/snappy_trials does, by C++ Snappy: tools/snappytrials/run compiles and runs it.
 // The input and the output are records: a length of four bytes, the lowest first, and so many bytes.
 #include <snappy.h>
+#include <time.h>
 
-#include <chrono>
 #include <cstdint>
 #include <cstdio>
 #include <cstdlib>
@@ -31,8 +31,11 @@ static void Put(const std::string& bytes) {
     fwrite(bytes.data(), 1, length, stdout);
 }
 
+// The nanoseconds that a processor has run the program.
 static uint64_t Nanos() {
-    return std::chrono::duration_cast<std::chrono::nanoseconds>(std::chrono::steady_clock::now().time_since_epoch()).count();
+    timespec time;
+    if (clock_gettime(CLOCK_PROCESS_CPUTIME_ID, &time)) abort();
+    return uint64_t(time.tv_sec) * 1000000000 + uint64_t(time.tv_nsec);
 }
 
 // A block is stored and read in the way of LevelDB: into one string that grows once, and into fresh memory each time.
