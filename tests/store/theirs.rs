@@ -5,6 +5,7 @@ use leveldb_base::error::{Result, StatusCode};
 use leveldb_env::env::Env;
 use leveldb_env::mem_env::MemEnv;
 use leveldb_env::options::Options;
+use leveldb_snappy::Snappy;
 use rusty_leveldb::{DB, repair};
 use std::alloc::Global;
 use std::process::Abort;
@@ -163,21 +164,74 @@ fn a_store_without_compression_is_read_and_written(rt: HostRuntime) -> Result<()
     use_store(&rt, rt.alloc(), false)
 }
 
-/// A block that Snappy compressed is refused where it is read, and its table stays.
-#[test]
-fn a_compressed_block_is_refused(rt: HostRuntime) -> Result<()> {
-    let alloc = rt.alloc();
+/// A store whose one table has a compressed block.
+fn compressed_store(alloc: Global) -> Result<MemEnv> {
     let mut env = MemEnv::new(alloc);
     put_file(alloc, &mut env, "CURRENT", b"MANIFEST-000004\n")?;
     put_file(alloc, &mut env, "MANIFEST-000004", SNAPPY_MANIFEST)?;
     put_file(alloc, &mut env, "000005.ldb", SNAPPY_TABLE)?;
     put_file(alloc, &mut env, "000006.log", b"")?;
+    Ok(env)
+}
+
+/// A block that Snappy compressed is refused where it is read, and its table stays.
+#[test]
+fn a_compressed_block_is_refused(rt: HostRuntime) -> Result<()> {
+    let alloc = rt.alloc();
+    let mut env = compressed_store(alloc)?;
     let mut db = DB::open(alloc, STORE, &mut env, Options::default())?;
     assert!(rt; failed_with(db.get(b"a"), StatusCode::NotSupported)?);
     assert!(rt; db.get(b"c")?.is_none());
     db.close()?;
     db.abandon()?;
     assert!(rt; file_bytes(alloc, &mut env, "000005.ldb")?.as_slice() == SNAPPY_TABLE);
+    Ok(())
+}
+
+/// Options that read blocks of Snappy, and compress new ones so.
+fn with_snappy(alloc: Global) -> Result<DefaultOptions> {
+    let mut options = Options::default();
+    let list = &mut options.compressor_list;
+    list.set::<Snappy>(alloc, Box::new(alloc, Snappy)?)?;
+    options.compressor = 1;
+    Ok(options)
+}
+
+/// Whether three letters have their values, a hundred times each of them.
+fn has_letters<E: Env>(alloc: Global, env: &mut E) -> Result<bool> {
+    let mut db = DB::open(alloc, STORE, env, with_snappy(alloc)?)?;
+    let mut is_right = true;
+    for letter in b'a'..=b'c' {
+        let found = db.get(&[letter])?;
+        is_right &= found.is_some_and(|found| found.as_slice() == [letter; 100].as_slice());
+    }
+    db.close()?;
+    db.abandon()?;
+    Ok(is_right)
+}
+
+/// With Snappy a compressed store is read, written and compacted, and repaired without its
+/// manifest; the table that is made is compressed, too.
+#[test]
+fn a_compressed_store_is_used_with_snappy(rt: HostRuntime) -> Result<()> {
+    let alloc = rt.alloc();
+    let mut env = compressed_store(alloc)?;
+    let mut db = DB::open(alloc, STORE, &mut env, with_snappy(alloc)?)?;
+    db.put(b"c", &[b'c'; 100])?;
+    db.compact_range(b"", b"")?;
+    db.close()?;
+    db.abandon()?;
+    assert!(rt; !env.exists("db/000005.ldb")?);
+    assert!(rt; has_letters(alloc, &mut env)?);
+    for name in &env.children(alloc, STORE)? {
+        if name.starts_with("MANIFEST-") || name.as_str() == "CURRENT" {
+            env.delete(&format!(in alloc; "{STORE}/{name}")?)?;
+        }
+    }
+    repair(alloc, STORE, &mut env, with_snappy(alloc)?)?;
+    assert!(rt; has_letters(alloc, &mut env)?);
+    let mut db = DB::open(alloc, STORE, &mut env, Options::default())?;
+    assert!(rt; failed_with(db.get(b"a"), StatusCode::NotSupported)?);
     Ok(())
 }
 
